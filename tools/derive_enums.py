@@ -1,7 +1,7 @@
 """The impls of annotated enums: fixed values, one scalar of several kinds, composites and variants by their index."""
 
 from derive_terms import (
-    WORDS, chain, field_trees, field_rows, fields_type, ghosts, list_of, member, named, reads_fields, take, uses)
+    WORDS, chain, field_trees, field_rows, fields_type, ghosts, list_of, member, named, read_encoded, reads_fields, take, uses)
 
 # for a scalar type: the variant of Content that it is read from, its kind in a tree, and what the kind contains
 SCALARS = {
@@ -34,10 +34,11 @@ def match_self(arms):
     return "        match self {\n" + "".join(f"            {arm} => {value},\n" for arm, value in arms) + "        }\n"
 
 
-def deserialize(t, members, body, allocates, more=""):
+def deserialize(t, members, body, allocates, more="", encoded=""):
+    encoded = read_encoded(t.name, encoded) if encoded else ""
     return f"impl Deserialize for {t.name} {{\n" + ghosts(members, more) + \
         f'    fn deserialize<D: Deserializer>({"" if allocates else "_"}alloc: Global, deserializer: D) -> Result<{t.name}, D::Error> {{\n' \
-        f"{body}    }}\n}}\n"
+        f"{body}    }}\n{encoded}}}\n"
 
 
 def round_trip(t, *calls):
@@ -46,6 +47,13 @@ def round_trip(t, *calls):
 
 
 REFUSED = "            _ => Err(D::Error::invalid_value()),\n        }\n"
+GAVE_UP = REFUSED.replace("D::Error::invalid_value()", "GaveUp")
+
+
+def of_text(t, indent, got, refused):
+    """The statements that select the variant by a text."""
+    tests = "".join(f"{indent}if text == {v.value} {{\n{indent}    return Ok({t.name}::{v.name});\n{indent}}}\n" for v in t.variants)
+    return f"{indent}let text = {got};\n{tests}{indent}Err({refused})\n"
 
 
 def restricted(t):
@@ -68,16 +76,18 @@ def restricted(t):
         body = match_self([(f"{t.name}::{v.name}", f'{v.value}{"" if t.source == "bool" else t.source}.serialize(serializer)')
                            for v in t.variants])
     out += [serialize(t, f"Some ({tree})", body)] if t.writes else []
+    from_bytes = f"<{t.source} as Deserialize>::read_encoded(alloc, code, input, depth)"
     if text:
         got = "text.as_inner().as_str()" if t.source == "Symbol" else "text.as_str()"
-        tests = "".join(f"                if text == {v.value} {{\n                    return Ok({t.name}::{v.name});\n                }}\n" for v in t.variants)
-        body = f"        match deserializer.open() {{\n            Content::{content}(text) => {{\n                let text = {got};\n{tests}" \
-            "                Err(D::Error::invalid_value())\n            }\n" + REFUSED
+        body = f"        match deserializer.open() {{\n            Content::{content}(text) => {{\n" \
+            f'{of_text(t, " " * 16, got, "D::Error::invalid_value()")}            }}\n{REFUSED}'
+        encoded = f"        let text = {from_bytes}?;\n" + of_text(t, " " * 8, got, "GaveUp")
     else:
-        body = "        match deserializer.into_fixed() {\n" + "".join(
-            f"            FixedContent::{content}({v.value}) => Ok({t.name}::{v.name}),\n" for v in t.variants) + REFUSED
+        arms = lambda of: "".join(f"            {of}({v.value}) => Ok({t.name}::{v.name}),\n" for v in t.variants)
+        body = "        match deserializer.into_fixed() {\n" + arms(f"FixedContent::{content}") + REFUSED
+        encoded = f"        match {from_bytes} {{\n" + arms("Ok") + GAVE_UP
     members = {"reads": f"λ t x. t ≡ {tree}", "image": f"λ x. {tree}", "restorable": "Always", "same": "λ x y. x ≡ y"}
-    out += [deserialize(t, members, body, False, variants_of(t))] if t.reads else []
+    out += [deserialize(t, members, body, False, variants_of(t), encoded)] if t.reads else []
     return out + ([round_trip(t)] if t.round_trips else [])
 
 
@@ -92,18 +102,21 @@ def scalar(t):
         f"            Content::{SCALARS[v.type][0]}(value) => Ok({t.name}::{v.name}(value)),\n" for v in t.variants) + REFUSED
     members = {"reads": f"λ t x. t ≡ {tree('x')}", "image": f"λ x. {tree('x')}", "restorable": "Always",
                "same": f"λ x y. {tree('x')} ≡ {tree('y')}"}
-    out += [deserialize(t, members, body, False, variants_of(t))] if t.reads else []
+    encoded = "        let start = *input;\n" + "        *input = start;\n".join(
+        f"        if let Ok(value) = <{v.type} as Deserialize>::read_encoded(alloc, code, input, depth) {{\n"
+        f"            return Ok({t.name}::{v.name}(value));\n        }}\n" for v in t.variants) + "        Err(GaveUp)\n"
+    out += [deserialize(t, members, body, False, variants_of(t), encoded)] if t.reads else []
     out += [round_trip(t)] if t.round_trips else []
     return out + ([f"impl MapKey for {t.name} {{\n    fn image_is_injective() {{}}\n}}\n"] if "map_key" in t.flags else [])
 
 
-def place(at, value):
-    """The value of the variant at a position, as a term."""
-    return "Other (" * at + f"This {value}" + ")" * at
+def place(at, value, is_rest=False):
+    """The value of the variant at a position, as a term; of the variant of all others, without `This`."""
+    return "Other (" * (at - is_rest) + (f"Other {value}" if is_rest else f"This {value}") + ")" * (at - is_rest)
 
 
-def either(types):
-    of = "Never"
+def either(types, rest="Never"):
+    of = rest
     for type_ in reversed(types):
         of = f"Either<{type_}, {of}>"
     return of
@@ -119,22 +132,25 @@ def record(t, values, arms):
 
 
 def described(t):
-    """One of several composites, which the descriptor selects."""
-    values = either([v.type for v in t.variants])
+    """One of several composites, which the descriptor selects. With `others`, the last variant has all other descriptors."""
+    rest = t.variants[-1] if "others" in t.flags else None
+    known = [v for v in t.variants if v is not rest]
+    values = either([v.type for v in known], rest.type if rest else "Never")
     of = lambda name: member(values, "Alternatives", name)
     trees = f'{member(values, "RoundTripAlternatives", "trees")} {parts(t, "x")}'
-    out = [record(t, values, [(f"{v.name} v", place(at, "v")) for at, v in enumerate(t.variants)])]
+    out = [record(t, values, [(f"{v.name} v", place(at, "v", v is rest)) for at, v in enumerate(t.variants)])]
     if t.writes:
         out.append(serialize(t, trees, match_self(
             [(f"{t.name}::{v.name}(value)", "value.serialize(serializer)") for v in t.variants]), ""))
     members = {"reads": f'λ t x. OnAlternatives {of("reads")} t {parts(t, "x")}',
                "image": f'λ x. described (code ({of("code_of")} {parts(t, "x")})) ({of("image")} {parts(t, "x")})',
                "restorable": f'λ x. {of("restorable")} {parts(t, "x")}', "same": f'λ x y. {of("same")} {parts(t, "x")} {parts(t, "y")}'}
-    body = f"        match read_alternatives::<{t.name}, D>(alloc, deserializer)? {{\n"
     nested = lambda at, value: "Either::Other(" * at + value + ")" * at
-    body += "".join(f'            {nested(at, "Either::This(value)")} => Ok({t.name}::{v.name}(value)),\n' for at, v in enumerate(t.variants))
-    body += f'            {nested(len(t.variants), "never")} => match never {{}},\n        }}\n'
-    out += [deserialize(t, members, body, True)] if t.reads else []
+    arms = "".join(f'            {nested(at, "Either::This(value)")} => Ok({t.name}::{v.name}(value)),\n' for at, v in enumerate(known))
+    arms += f'            {nested(len(known), "value" if rest else "never")} => ' + (f"Ok({t.name}::{rest.name}(value)),\n" if rest else "match never {},\n")
+    body = f"        match read_alternatives::<{t.name}, D>(alloc, deserializer)? {{\n{arms}        }}\n"
+    encoded = f"        match read_alternatives_encoded::<{t.name}>(alloc, code, input, depth)? {{\n{arms}        }}\n"
+    out += [deserialize(t, members, body, True, "", encoded)] if t.reads else []
     return out + ([round_trip(t, f"laws::alternatives_return::<{t.name}>();")] if t.round_trips else [])
 
 

@@ -1,7 +1,7 @@
 """The impls of annotated structs: lists, maps and single values, with or without a descriptor."""
 
 from derive_terms import (
-    chain, field_rows, field_trees, fields_type, ghosts, list_of, member, named, reads_fields, take, tree_of, uses)
+    chain, field_rows, field_trees, fields_type, ghosts, list_of, member, named, read_encoded, reads_fields, take, tree_of, uses)
 
 
 def serialize(t):
@@ -95,6 +95,19 @@ def build(t, call):
     return out + f"        Ok({t.name}{made})\n"
 
 
+def read_bytes(t):
+    """The method that reads a list or a single value from its bytes."""
+    call, said, method = "read_parts_encoded", "", "read_encoded"
+    if t.composite:
+        method = "read_body_encoded"
+    elif t.code:
+        call, said = "read_composite_encoded", f"{t.code}, "
+    elif t.symbol:
+        call, said = "read_named_encoded", f'"{t.symbol}", '
+    body = f"        let seed = {seed(t)};\n" + build(t, f"{call}::<{t.name}, _>(alloc, code, input, depth, {said}seed)?")
+    return read_encoded(t.name, body, method)
+
+
 def composite(t):
     """The impls of Composite and Deserialize of a type that is read after its code or its name."""
     image, others = members(t)
@@ -105,14 +118,15 @@ def composite(t):
     out += f"    fn code() -> u64 {{\n        {t.code}\n    }}\n\n    fn name() -> &'static str {{\n        \"{t.symbol}\"\n    }}\n\n"
     call = f"read::<{t.name}, D, _>(alloc, deserializer, {seed(t)})?" if t.fields else "read_no_fields::<D>(deserializer)?"
     out += f'    fn read_body<D: Deserializer>({"" if t.fields else "_"}alloc: Global, deserializer: D) -> Result<{t.name}, D::Error> {{\n'
-    out += build(t, call) + "    }\n}\n\n"
+    out += build(t, call) + f"    }}\n{read_bytes(t)}}}\n\n"
     of = lambda name: member(t.name, "Composite", name)
     out += f"impl Deserialize for {t.name} {{\n" + ghosts({
         "reads": f'λ t x. OnComposite {t.code} (codes "{t.symbol}") (λ u. {of("reads")} u x) t',
         "image": f'λ x. described (code {t.code}) ({of("image")} x)',
         "restorable": of("restorable"), "same": of("same")})
     return out + f"    fn deserialize<D: Deserializer>(alloc: Global, deserializer: D) -> Result<{t.name}, D::Error> {{\n" \
-        f"        read_composite_type::<{t.name}, D>(alloc, deserializer)\n    }}\n}}\n"
+        f"        read_composite_type::<{t.name}, D>(alloc, deserializer)\n    }}\n" + \
+        read_encoded(t.name, f"        read_composite_type_encoded::<{t.name}>(alloc, code, input, depth)\n") + "}\n"
 
 
 def deserialize(t):
@@ -130,7 +144,8 @@ def deserialize(t):
     call = "read_fields_map" if call == "read_map" else call
     said = f'{t.code}u64, ' if t.code else f'"{t.symbol}", ' if t.symbol else ""
     out += f"    fn deserialize<D: Deserializer>(alloc: Global, deserializer: D) -> Result<{t.name}, D::Error> {{\n"
-    return out + build(t, f"{call}::<{t.name}, D, _>(alloc, deserializer, {said}{seed(t)})?") + "    }\n}\n"
+    out += build(t, f"{call}::<{t.name}, D, _>(alloc, deserializer, {said}{seed(t)})?") + "    }\n"
+    return out + ("" if t.encoding == "map" else read_bytes(t)) + "}\n"
 
 
 def round_trip(t):
@@ -178,7 +193,9 @@ def newtype(t):
             "restorable": f'λ x. {of("restorable")} {x}', "same": f'λ x y. {of("same")} {x} {y}'}) +
             f"    fn deserialize<D: Deserializer>(alloc: Global, deserializer: D) -> Result<{n}, D::Error> {{\n"
             f"        match <{f.type} as Deserialize>::deserialize(alloc, deserializer) {{\n"
-            f"            Ok(value) => Ok({made}),\n            Err(error) => Err(error),\n        }}\n    }}\n}}\n")
+            f"            Ok(value) => Ok({made}),\n            Err(error) => Err(error),\n        }}\n    }}\n" +
+            read_encoded(n, f"        match <{f.type} as Deserialize>::read_encoded(alloc, code, input, depth) {{\n"
+                         f"            Ok(value) => Ok({made}),\n            Err(error) => Err(error),\n        }}\n") + "}\n")
     if t.round_trips:
         out.append(f"impl RoundTrip for {n} {{\n    fn law() {{\n        <{f.type} as RoundTrip>::law();\n    }}\n}}\n")
     if "map_key" in t.flags:

@@ -126,3 +126,8 @@ def take(fields, call, indent="        "):
         left = "rest" if last == "rest" else f"rest: {last}"
         out += f"{indent}let FieldValues {{ {value}, {left} }} = {rest if at else call};\n"
     return out or f"{indent}let () = {call};\n"
+
+
+def read_encoded(name, body, method="read_encoded"):
+    """The method that reads a value from its bytes."""
+    return f"\n    fn {method}(alloc: Global, code: u8, input: &mut &[u8], depth: u16) -> Result<{name}, GaveUp> {{\n{body}    }}\n"

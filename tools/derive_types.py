@@ -5,7 +5,7 @@ import re
 STRUCT_ENCODINGS = ("list", "map", "basic")
 ENUM_ENCODINGS = ("described", "restricted", "scalar", "index")
 SOURCES = ("bool", "u8", "u16", "u32", "u64", "String", "Symbol")
-FLAGS = ("full", "by_name", "map_key", "no_round_trip", "write_only", "read_only")
+FLAGS = ("full", "by_name", "map_key", "others", "no_round_trip", "write_only", "read_only")
 KEYS = ("encoding", "code", "name", "rename_all", "source", "values")
 DEFAULTED = ("bool", "u8", "u16", "u32", "u64")
 SCALARS = DEFAULTED + ("i8", "i16", "i32", "i64", "char", "F32Bits", "F64Bits", "Dec32", "Dec64", "Dec128", "Timestamp", "Uuid", "ByteBuf", "String", "Symbol")
@@ -156,6 +156,8 @@ def annotation(line, text):
         said["values"] = values_of(line, said["source"], said["values"])
     if encoding == "map" and "full" in flags:
         raise Wrong(line, "a map is written without absent fields: `full` is for a list")
+    if "others" in flags and encoding != "described":
+        raise Wrong(line, 'others is for encoding = "described"')
     if {"write_only", "read_only"} <= flags:
         raise Wrong(line, "a type is either write_only or read_only")
     return said, flags

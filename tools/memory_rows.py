@@ -26,7 +26,7 @@ from pathlib import Path
 ROOT = Path(__file__).resolve().parent.parent / "crates"
 REFUSED = "<out of memory>"
 # Of the table of headers of each `Value` that is written, also inside a typed value: one for 4 headers, and one whenever it grows.
-HEADERS = 165
+HEADERS = 167
 # For each of the three calls of a row of `read` that read in one pass: 15 of the untyped value with arrays, a map and texts, 7 of the box
 # of boxes, 3 of the two texts, 2 each of three others with two blocks, and 1 each of nine.
 ONE_PASS = 3 * (15 + 7 + 3 + 3 * 2 + 9)
@@ -59,17 +59,17 @@ def rows_of(name):
 
 
 def results_of(line):
-    """The row of a line, and its results: more than one for a row of `read` whose calls have different ones."""
+    """The row of a line, and its results: more than one for a row of `read` or `read_within` whose calls have different ones."""
     row, _, result = line.partition(" = ")
     first, _, others = result.partition(", but ")
-    more = others.removeprefix("from_slice ").split(" and ") if others else []
+    more = others.removeprefix("from_slice ").removeprefix("from_reader_limited ").split(" and ") if others else []
     return row, [first, *more]
 
 
 def is_refused(line, full):
     """Whether the line is the full one with out of memory in place of its result or of a part of it.
 
-    Of a row of `read`, one of the calls may have such a result, and the others the full one.
+    Of a row of `read` or `read_within`, one of the calls may have such a result, and the others the full one.
     """
     (row, results), (wanted, (expected, *_)) = results_of(line), results_of(full)
     refused = 0

@@ -2,3 +2,4 @@ pub mod Searches
 pub mod PairLemmas
 pub mod IndexLemmas
 pub mod DigitLemmas
+pub mod EditLemmas

@@ -8,11 +8,11 @@ use Rattle.amqp_data.proofs.Searches.{AllFail, fail_by_position}
 
 module _ {K V : Type 0} (eq : K → K → Bool) (k : K) where
   -- the pair at position i is the first whose key equals k
-  abbrev IsFirst : List (K × V) → ℕ → (K × V) → Type 0
+  abbrev pub IsFirst : List (K × V) → ℕ → (K × V) → Type 0
   IsFirst es i d = (i < length es) × (eq k (get_or es i d).0 ≡ true) × ((j : ℕ) → j < i → eq k (get_or es j d).0 ≡ false)
 
   -- if the first such pair of a list is at position i + 1, it is at position i of the tail
-  tail_first : (e : K × V) (es : List (K × V)) (i : ℕ) (d : K × V) → IsFirst (e ∷ es) (suc i) d → IsFirst es i d
+  pub tail_first : (e : K × V) (es : List (K × V)) (i : ℕ) (d : K × V) → IsFirst (e ∷ es) (suc i) d → IsFirst es i d
   tail_first e es i d first = (omega arith, first.1, λ j below. first.2 (suc j) (omega arith))
 
   lookup_absent : (es : List (K × V)) → AllFail (λ e. eq k e.0) es → lookup (eq k) es ≡ None

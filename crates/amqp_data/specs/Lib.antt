@@ -1,5 +1,6 @@
 -- Definitions used by the contracts of public items.
 pub mod Compares
+pub mod DescriptorParts
 pub mod Fixed
 pub mod FormatCode
 pub mod Hexadecimal
@@ -7,6 +8,8 @@ pub mod Index
 pub mod Items
 pub mod Iterates
 pub mod Lends
+pub mod MapIters
+pub mod MapLends
 pub mod Pairs
 pub mod Shown
 pub mod Text

@@ -1,8 +1,13 @@
 //! Binary floating-point numbers, stored as bits without arithmetic (AMQP 1.0 part 1, sections
 //! 1.6.11 and 1.6.12).
 
-ghost use Rattle.std.specs.Prelude.{◌≡◌};
+ghost use Rattle.std.specs.Prelude.{◌≡◌, from_bits, to_bits};
+ghost use Rattle.std.specs.Float.Ieee.{binary32, binary64};
 ghost use Rattle.amqp_data.specs.Fixed.{f32_bits, f64_bits};
+
+use std::num::{
+    f32_from_bits_with_nan, f32_to_bits_with_nan, f64_from_bits_with_nan, f64_to_bits_with_nan,
+};
 
 /// The bits of a float, compared as an unsigned number.
 ///
@@ -33,6 +38,30 @@ impl F32Bits {
         ensures { result ≡ f32_bits self }
     {
         self.0
+    }
+}
+
+impl F32Bits {
+    /// Returns the number. The bits of a NaN give a NaN, of no particular sign or payload.
+    ///
+    /// # Example
+    /// For the float encoded as `723fc00000`, returns 1.5.
+    pub fn to_f32(self) -> f32
+        ensures { result ≡ from_bits binary32 (f32_bits self) }
+    {
+        f32_from_bits_with_nan(self.0)
+    }
+}
+
+/// Returns the bits of the number. Each NaN gives the bits 7FC00000.
+///
+/// # Example
+/// 1.5 gives the float encoded as `723fc00000`.
+impl From<f32> for F32Bits {
+    ghost from_gives = { λ number float. f32_bits float ≡ to_bits binary32 number };
+
+    fn from(number: f32) -> F32Bits {
+        F32Bits(f32_to_bits_with_nan(number))
     }
 }
 
@@ -73,6 +102,30 @@ impl F64Bits {
         ensures { result ≡ f64_bits self }
     {
         self.0
+    }
+}
+
+impl F64Bits {
+    /// Returns the number. The bits of a NaN give a NaN, of no particular sign or payload.
+    ///
+    /// # Example
+    /// For the double encoded as `823ff8000000000000`, returns 1.5.
+    pub fn to_f64(self) -> f64
+        ensures { result ≡ from_bits binary64 (f64_bits self) }
+    {
+        f64_from_bits_with_nan(self.0)
+    }
+}
+
+/// Returns the bits of the number. Each NaN gives the bits 7FF8000000000000.
+///
+/// # Example
+/// 1.5 gives the double encoded as `823ff8000000000000`.
+impl From<f64> for F64Bits {
+    ghost from_gives = { λ number double. f64_bits double ≡ to_bits binary64 number };
+
+    fn from(number: f64) -> F64Bits {
+        F64Bits(f64_to_bits_with_nan(number))
     }
 }
 

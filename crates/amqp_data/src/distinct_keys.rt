@@ -45,6 +45,26 @@ pub fn finds_distinct_keys<K: Hash + Eq, V>(alloc: Global, entries: &[(K, V)]) -
     }
 }
 
+/// Returns an index of the entries, which has no buckets if it does not show that no two keys are
+/// equal: if two keys are equal, if many keys have hashes in the same bucket, so that more than two
+/// comparisons for each entry would be needed, or if there are 2³² entries.
+pub(crate) fn index_all<K: Hash + Eq, V>(
+    alloc: Global,
+    entries: &[(K, V)],
+) -> Result<(Vec<u32>, Vec<u32>), AllocError>
+    ensures { IfOk result (λ index. 0 < length index.0.items →
+        IsIndexed K.eq K.hash_input index.0.items index.1.items entries.now) }
+{
+    let count = entries.len().saturating_mul(2);
+    let mut heads = Vec::from_elem(alloc, 0u32, count)?;
+    let mut earlier = Vec::with_capacity(alloc, entries.len())?;
+    let mut left = count;
+    match index_distinct(entries, &mut heads, &mut earlier, &mut left) {
+        Some(indexed) if indexed >= entries.len() => Ok((heads, earlier)),
+        _ => Ok((Vec::new(alloc), Vec::new(alloc))),
+    }
+}
+
 /// Inserts the entries in order into an empty list, as far as the hashes of the keys show the place
 /// of each: a repeated key keeps its position and gets the new value. Returns true if no two keys are
 /// equal then.

@@ -80,6 +80,23 @@ pub(crate) fn locate<K: Hash + Eq, V>(
     (find_in_bucket(entries, heads, earlier, bucket, key), bucket)
 }
 
+/// Returns the position of the key, by the index if it has buckets.
+pub(crate) fn find_indexed<K: Hash + Eq, V>(
+    entries: &[(K, V)],
+    heads: &[u32],
+    earlier: &[u32],
+    key: &K,
+) -> Option<usize>
+    requires { 0 < length heads.now → IsIndexed K.eq K.hash_input heads.now earlier.now entries.now }
+    ensures { result ≡ position (λ e. K.eq key.now e.0) entries.now }
+{
+    if heads.is_empty() {
+        return find_in_order(entries, key);
+    }
+    let bucket = bucket_of(key, heads.len());
+    find_in_bucket(entries, heads, earlier, bucket, key)
+}
+
 /// Adds an entry to the index, after the others. Returns false if an allocation fails, or if there
 /// are 2³² - 1 entries.
 pub(crate) fn add(heads: &mut [u32], earlier: &mut Vec<u32>, bucket: usize) -> bool

@@ -10,7 +10,8 @@ use crate::array::Array;
 /// has no constructor, so that Qpid Proton does not read it.
 ///
 /// # Example
-/// One symbol is encoded as `a30161`, an array of two as `e00602a301610162`.
+/// One symbol is encoded as `a30161`, an array of two as
+/// `e00c02b300000001610000000162`.
 #[derive(Debug, PartialEq, Drop)]
 pub enum Multiple<T> {
     /// One value, without an array.

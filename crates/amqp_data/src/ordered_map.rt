@@ -9,7 +9,13 @@ ghost use Rattle.std.specs.Option.{option_copied};
 ghost use Rattle.amqp_data.specs.Iterates.{GivesItems};
 ghost use Rattle.amqp_data.specs.Pairs.{entries_of, entries_left, insert_pair, AreDistinct};
 
+mod edits;
+mod lends;
+mod reads;
+
 use crate::Error;
+pub use lends::{IterMut, ValuesMut};
+pub use reads::{Keys, Values};
 use std::alloc::Global;
 use std::hash::Hash;
 use std::{mem, vec};
@@ -24,7 +30,7 @@ use std::{mem, vec};
 ///
 /// # Example
 /// An empty map is encoded as `c10100`.
-#[derive(Debug, PartialEq, Eq, PartialOrd, Ord, Hash, Drop)]
+#[derive(Debug, PartialEq, Eq, PartialOrd, Ord, Hash, Clone, Drop)]
 pub struct OrderedMap<K, V> {
     entries: Vec<(K, V)>,
 }

@@ -1,7 +1,7 @@
 //! Symbols: names from a domain known to the sender and the receiver (AMQP 1.0 part 1, section
 //! 1.6.21).
 
-ghost use Rattle.std.specs.Prelude.{◌≡◌, IfOk, IfErr, Some, string_bytes};
+ghost use Rattle.std.specs.Prelude.{◌≡◌, ◌==◌, length, IfOk, IfErr, Some, string_bytes};
 ghost use Rattle.amqp_data.specs.Shown.{shown_symbol};
 ghost use Rattle.amqp_data.specs.Text.{symbol_text, symbol_ref_text};
 
@@ -18,7 +18,7 @@ use std::fmt::{Formatter, Write};
 ///
 /// # Example
 /// `amqp` is encoded as `a304616d7170`.
-#[derive(Debug, PartialEq, Eq, PartialOrd, Ord, Hash, Drop)]
+#[derive(Debug, PartialEq, Eq, PartialOrd, Ord, Hash, Clone, Drop)]
 pub struct Symbol(String);
 
 impl Symbol {
@@ -47,6 +47,37 @@ impl Symbol {
         ensures { string_bytes result.now ≡ symbol_text self.now }
     {
         &self.0
+    }
+
+    /// Returns the text as a slice. `PartialEq` compares two values of one type, so compare with a
+    /// literal by `symbol.as_str() == "amqp"`.
+    ///
+    /// # Example
+    /// For the symbol encoded as `a304616d7170`, returns `amqp`.
+    pub fn as_str(&self) -> &str
+        ensures { result.now ≡ symbol_text self.now }
+    {
+        self.0.as_str()
+    }
+
+    /// Returns the number of bytes of the text.
+    ///
+    /// # Example
+    /// For the symbol encoded as `a304616d7170`, returns 4.
+    pub fn len(&self) -> usize
+        ensures { result ≡ length (symbol_text self.now) }
+    {
+        self.0.len()
+    }
+
+    /// Returns whether the text is empty.
+    ///
+    /// # Example
+    /// True for the symbol encoded as `a300`.
+    pub fn is_empty(&self) -> bool
+        ensures { result ≡ (length (symbol_text self.now) == 0) }
+    {
+        self.0.is_empty()
     }
 
     /// Consumes the symbol and returns the text.
@@ -110,6 +141,38 @@ impl<'a> SymbolRef<'a> {
         ensures { result.now ≡ symbol_ref_text self.entry }
     {
         self.0
+    }
+}
+
+impl<'a> SymbolRef<'a> {
+    /// Returns the text. This is `as_inner` under the name that `Symbol` has for it.
+    ///
+    /// # Example
+    /// For the symbol encoded as `a304616d7170`, returns `amqp`.
+    pub fn as_str(&self) -> &'a str
+        ensures { result.now ≡ symbol_ref_text self.now }
+    {
+        self.0
+    }
+
+    /// Returns the number of bytes of the text.
+    ///
+    /// # Example
+    /// For the symbol encoded as `a304616d7170`, returns 4.
+    pub fn len(&self) -> usize
+        ensures { result ≡ length (symbol_ref_text self.now) }
+    {
+        self.0.len()
+    }
+
+    /// Returns whether the text is empty.
+    ///
+    /// # Example
+    /// True for the symbol encoded as `a300`.
+    pub fn is_empty(&self) -> bool
+        ensures { result ≡ (length (symbol_ref_text self.now) == 0) }
+    {
+        self.0.is_empty()
     }
 }
 

@@ -1,6 +1,6 @@
 //! Transparent vectors: values one after another, with no header.
 
-ghost use Rattle.std.specs.Prelude.{◌≡◌, IfOk, IfErr};
+ghost use Rattle.std.specs.Prelude.{◌≡◌, ◌==◌, length, IfOk, IfErr};
 ghost use Rattle.std.specs.Borrow.{sem};
 ghost use Rattle.std.specs.Iterator.{IsFinite};
 ghost use Rattle.std.specs.Iterator.Runs.{WholeRun};
@@ -22,7 +22,7 @@ use std::{slice, vec};
 ///
 /// # Example
 /// `true`, `false` and `true` are encoded as `414241`.
-#[derive(Debug, PartialEq, Eq, PartialOrd, Ord, Hash, Drop)]
+#[derive(Debug, PartialEq, Eq, PartialOrd, Ord, Hash, Clone, Drop)]
 pub struct TransparentVec<T>(Vec<T>);
 
 impl<T> TransparentVec<T> {
@@ -57,6 +57,26 @@ impl<T> TransparentVec<T> {
         ensures { result.now ≡ transparent_items self.now }
     {
         self.0.as_slice()
+    }
+
+    /// Returns the number of elements.
+    ///
+    /// # Example
+    /// For the transparent vector encoded as `414241`, returns 3.
+    pub fn len(&self) -> usize
+        ensures { result ≡ length (transparent_items self.now) }
+    {
+        self.0.len()
+    }
+
+    /// Returns whether there are no elements.
+    ///
+    /// # Example
+    /// True for the transparent vector that is encoded as no bytes.
+    pub fn is_empty(&self) -> bool
+        ensures { result ≡ (length (transparent_items self.now) == 0) }
+    {
+        self.0.is_empty()
     }
 
     /// Returns a mutable reference to the vector of the elements.

@@ -1,6 +1,8 @@
 //! Universally unique identifiers (AMQP 1.0 part 1, section 1.6.18).
 
-ghost use Rattle.std.specs.Prelude.{◌≡◌, ◌+◌, ◌*◌, ◌≤◌, ◌++◌, take, drop, Some, IsAscii};
+ghost use Rattle.std.specs.Prelude.{◌≡◌, ◌+◌, ◌*◌, ◌<◌, ◌≤◌, ◌++◌, take, drop, length, map, Some, IfErr, IfOk};
+ghost use Rattle.std.specs.Prelude.{IsAscii};
+ghost use Rattle.std.specs.Char.{to_ascii_lowercase};
 ghost use Rattle.amqp_data.specs.Fixed.{uuid_bytes, GivesFixed};
 ghost use Rattle.amqp_data.specs.Hexadecimal.{hex};
 ghost use Rattle.amqp_data.specs.Shown.{shown_uuid, uuid_group};
@@ -42,6 +44,34 @@ impl Uuid {
         ensures { result ≡ uuid_bytes self }
     {
         self.0
+    }
+}
+
+impl Uuid {
+    /// Creates a uuid from its text: groups of 8, 4, 4, 4 and 12 hexadecimal digits in lower or upper
+    /// case, separated by hyphens, as `Display` writes it.
+    ///
+    /// # Errors
+    /// Returns `Error::InvalidValue` for any other text.
+    ///
+    /// # Example
+    /// `00112233-4455-6677-8899-AABBCCDDEEFF` gives the uuid that is encoded as
+    /// `9800112233445566778899aabbccddeeff`.
+    pub fn parse_str(text: &str) -> Result<Uuid, Error>
+        ensures ok { IfOk result (λ uuid. map to_ascii_lowercase text.now
+            ≡ map to_ascii_lowercase (shown_uuid (uuid_bytes uuid))) }
+        ensures invalid { IfErr result (λ e. e ≡ Error.InvalidValue) }
+    {
+        let text = text.as_bytes();
+        if text.len() != 36 {
+            return Err(Error::InvalidValue);
+        }
+        let bytes = bytes_of_text(text);
+        if text.eq_ignore_ascii_case(&uuid_text(&bytes)) {
+            Ok(Uuid(bytes))
+        } else {
+            Err(Error::InvalidValue)
+        }
     }
 }
 
@@ -125,4 +155,36 @@ fn put_part(bytes: &[u8; 16], from: usize, count: usize, text: &mut [u8; 36], at
     ensures ascii { IsAscii (hex (take count (drop from bytes.now))) }
 {
     put_digits(&bytes[from..from + count], text, at);
+}
+
+// Returns the bytes whose digits are at the places that `uuid_text` has for them. Another character
+// than a digit is taken as 0.
+fn bytes_of_text(text: &[u8]) -> [u8; 16]
+    requires { length text.now ≡ 36 }
+{
+    let mut bytes = [0; 16];
+    for i in 0..16 {
+        let hyphens = match i {
+            0..=3 => 0,
+            4..=5 => 1,
+            6..=7 => 2,
+            8..=9 => 3,
+            _ => 4,
+        };
+        let at = 2 * i + hyphens;
+        bytes[i] = digit_value(text[at]) * 16 + digit_value(text[at + 1]);
+    }
+    bytes
+}
+
+// Returns the value of a hexadecimal digit, or 0 for another character.
+fn digit_value(digit: u8) -> u8
+    ensures { result < 16 }
+{
+    match digit {
+        b'0'..=b'9' => digit - b'0',
+        b'a'..=b'f' => digit - b'a' + 10,
+        b'A'..=b'F' => digit - b'A' + 10,
+        _ => 0,
+    }
 }

@@ -11,3 +11,8 @@ pub mod Chunks
 pub mod FieldLemmas
 pub mod OtherCodes
 pub mod MultipleRefused
+pub mod LazyRefused
+pub mod NotArray
+pub mod MultipleReadings
+pub mod DefaultedReadings
+pub mod CompositeReadings

@@ -1,8 +1,9 @@
 -- What is read from the first encoded value of bytes (AMQP 1.0 part 1, sections 1.2 and 1.6).
 use Rattle.std.specs.Prelude.{◌≡◌, ℕ, suc, Bool, List, [], Some}
 use Rattle.std.specs.List.{AllZip}
-use Rattle.amqp_ser.specs.Tree.{Tree}
+use Rattle.amqp_ser.specs.Tree.{Tree, Descriptor, code}
 use Rattle.amqp_decode.specs.Parsed.{FrameReader, parse, gather}
+use Rattle.amqp_decode.specs.Prefix.{IsDescribedBy}
 use Rattle.amqp_de.specs.Fields.{FieldSource, by_position}
 use Rattle.amqp_de.specs.Present.{EndsEarly}
 
@@ -37,3 +38,13 @@ abbrev pub FieldsFill : {V : Type 0} → (V → FieldSource → Type 0) → (V �
 FieldsFill {V} reads images restorable same form count bytes v =
     (ts : List Tree) × (gather form count bytes [] ≡ Some (ts, [])) × reads v (by_position ts)
     × ((x : V) → restorable x → EndsEarly (images x) ts → same v x)
+
+-- The bytes start with a value that has a descriptor with this property, and the value inside starts
+-- the bytes `after`.
+abbrev pub IsDescribedByOne : (Descriptor → Type 0) → List ℕ → List ℕ → Type 0
+IsDescribedByOne P bytes after = (d : Descriptor) × P d × IsDescribedBy d bytes after
+
+-- Like `Reading`, for what follows the descriptor `d`, which selects one of several composites.
+abbrev pub AfterReading : {V : Type 0} → (Descriptor → Tree → V → Type 0) → (V → ℕ) → (V → Tree) → (V → Type 0) → (V → V → Type 0) → Descriptor → Tree → V → Type 0
+AfterReading {V} reads code_of image restorable same d t y =
+    reads d t y × ((x : V) → restorable x → d ≡ code (code_of x) → t ≡ image x → same y x)

@@ -2,7 +2,6 @@
 -- (AMQP 1.0 part 1, sections 1.2 and 1.6).
 use Rattle.std.specs.Prelude.{◌≡◌, ℕ, true, List, Option, Some, None, length, take}
 use Rattle.std.specs.List.{AllZip}
-use Rattle.amqp_frame.specs.Frame.{IsFrame}
 use Rattle.amqp_ser.specs.Encoding.{encoding}
 use Rattle.amqp_ser.specs.Writable.{writable}
 use Rattle.amqp_ser.specs.Tree.{null, ulong, symbol, Descriptor, name, code, Tree, scalar, list, array}
@@ -51,6 +50,6 @@ abbrev pub descriptor_tree : Descriptor → Tree
 descriptor_tree (code n) = scalar (ulong n)
 descriptor_tree (name s) = scalar (symbol s)
 
--- The bytes of a writable tree whose encoding is one encoded value.
+-- The bytes of a writable tree.
 abbrev pub ReadsLazy : Tree → List ℕ → Type 0
-ReadsLazy t bs = (writable t ≡ true) × IsFrame (encoding t) × (bs ≡ encoding t)
+ReadsLazy t bs = (writable t ≡ true) × (bs ≡ encoding t)

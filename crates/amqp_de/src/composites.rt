@@ -1,12 +1,13 @@
-//! Composites, which are read after a descriptor: a code, or the name that stands for it.
+//! Reading of composites: described values whose descriptor is the code or the name of their type.
 
-ghost use Rattle.std.specs.Prelude.{◌≡◌, ◌↔◌, ◌⊎◌, ℕ, List, [], IsTrue, MatchResult};
+ghost use Rattle.std.specs.Prelude.{◌≡◌, ◌↔◌, ◌⊎◌, ◌∷◌, ℕ, List, [], IsTrue, IfOk, MatchResult};
 ghost use Rattle.amqp_ser.specs.Carried.{descriptor_content};
-ghost use Rattle.amqp_ser.specs.Tree.{Tree, Descriptor as AnyDescriptor, code, described, scalar, null};
+ghost use Rattle.amqp_ser.specs.Tree.{Tree, Descriptor as AnyDescriptor, code as numbered, described, scalar, null};
 ghost use Rattle.amqp_de.specs.Answers.{Answers, PartsOf, Restores, RestoresValues};
 ghost use Rattle.amqp_de.specs.Fields.{OnFields, NoMoreFields};
 ghost use Rattle.amqp_de.specs.Present.{short_list};
 ghost use Rattle.amqp_de.specs.Composites.{IsCodeOrName, OnComposite, OnAlternatives, IsAlternative, either, RestorableAlternative};
+ghost use Rattle.amqp_de.specs.Encoded.{AfterReading, Reading, ReadsPrefix};
 ghost use Rattle.amqp_de.specs.Enums.{SameEither};
 
 use crate::content::Content;
@@ -15,6 +16,7 @@ use crate::deserializer::Deserializer;
 use crate::enums::{Either, Never};
 use crate::record::Record;
 use amqp_data::Descriptor;
+use amqp_decode::prefix::GaveUp;
 use std::alloc::Global;
 
 /// A type that is read after its descriptor, which is a code or a name (AMQP 1.0 part 1, section 1.4).
@@ -68,11 +70,30 @@ pub trait Composite: Sized + Drop {
         ensures read { Answers D.Error.is_out_of_memory (reads (D.value deserializer)) result }
         ensures law { Restores image restorable same
             D.Error.is_out_of_memory (D.value deserializer) result };
+
+    /// Reads the payload after its format code of what follows the descriptor, without an untyped
+    /// value, and leaves the bytes after it. There are at most `depth` levels inside.
+    ///
+    /// The provided method gives up.
+    ///
+    /// # Errors
+    /// Returns `GaveUp` as `Deserialize::read_encoded` does.
+    fn read_body_encoded(
+        alloc: Global,
+        code: u8,
+        input: &mut &[u8],
+        depth: u16,
+    ) -> Result<Self, GaveUp>
+        ensures { IfOk result (λ x. ReadsPrefix (Reading reads image restorable same)
+            depth (code ∷ input.old.now) input.new.now x) }
+    {
+        Err(GaveUp)
+    }
 }
 
 /// Returns `true` if and only if the descriptor is the code or the name of `T`.
 #[tactic(auto, unfolding(crate::specs::Composites::IsCodeOrName))]
-fn is_descriptor_of<T: Composite>(descriptor: &Descriptor) -> bool
+pub(crate) fn is_descriptor_of<T: Composite>(descriptor: &Descriptor) -> bool
     ensures { IsTrue result ↔ IsCodeOrName T.descriptor_code T.descriptor_name (descriptor_content descriptor.now) }
 {
     match descriptor {
@@ -97,7 +118,7 @@ pub fn read_composite_type<T: Composite, D: Deserializer>(
 ) -> Result<T, D::Error>
     ensures read { Answers D.Error.is_out_of_memory
         (λ x. OnComposite T.descriptor_code T.descriptor_name (λ t. T.reads t x) (D.value deserializer)) result }
-    ensures law { Restores (λ x. described (code T.descriptor_code) (T.image x)) T.restorable T.same
+    ensures law { Restores (λ x. described (numbered T.descriptor_code) (T.image x)) T.restorable T.same
         D.Error.is_out_of_memory (D.value deserializer) result }
 {
     match deserializer.open() {
@@ -145,9 +166,29 @@ pub trait Alternatives: Sized + Drop {
         ensures read { Answers D.Error.is_out_of_memory
             (reads (descriptor_content descriptor.now) (D.value deserializer)) result }
         ensures law { (x : Self) → restorable x →
-            descriptor_content descriptor.now ≡ code (code_of x) →
+            descriptor_content descriptor.now ≡ numbered (code_of x) →
             D.value deserializer ≡ image x →
             MatchResult result (λ y. same y x) D.Error.is_out_of_memory };
+
+    /// Reads the payload after its format code of what follows the descriptor, without an untyped
+    /// value, and leaves the bytes after it. There are at most `depth` levels inside.
+    ///
+    /// The provided method gives up.
+    ///
+    /// # Errors
+    /// Returns `GaveUp` as `Deserialize::read_encoded` does, and if no composite has the descriptor.
+    fn read_after_encoded(
+        alloc: Global,
+        descriptor: &Descriptor,
+        code: u8,
+        input: &mut &[u8],
+        depth: u16,
+    ) -> Result<Self, GaveUp>
+        ensures { IfOk result (λ x. ReadsPrefix (AfterReading reads code_of image restorable same
+            (descriptor_content descriptor.now)) depth (code ∷ input.old.now) input.new.now x) }
+    {
+        Err(GaveUp)
+    }
 }
 
 impl Alternatives for Never {
@@ -198,6 +239,25 @@ impl<T: Composite, R: Alternatives> Alternatives for Either<T, R> {
             Err(error) => Err(error),
         }
     }
+
+    fn read_after_encoded(
+        alloc: Global,
+        descriptor: &Descriptor,
+        code: u8,
+        input: &mut &[u8],
+        depth: u16,
+    ) -> Result<Either<T, R>, GaveUp> {
+        if is_descriptor_of::<T>(descriptor) {
+            return match T::read_body_encoded(alloc, code, input, depth) {
+                Ok(this) => Ok(Either::This(this)),
+                Err(error) => Err(error),
+            };
+        }
+        match R::read_after_encoded(alloc, descriptor, code, input, depth) {
+            Ok(other) => Ok(Either::Other(other)),
+            Err(error) => Err(error),
+        }
+    }
 }
 
 /// Reads one of several composites, which the descriptor selects.
@@ -219,7 +279,7 @@ where
     ensures read { PartsOf T.parts D.Error.is_out_of_memory
         (λ x. OnAlternatives T.Values.reads (D.value deserializer) x) result }
     ensures law { RestoresValues T.parts
-        (λ v. described (code (T.Values.code_of (T.parts v))) (T.Values.image (T.parts v)))
+        (λ v. described (numbered (T.Values.code_of (T.parts v))) (T.Values.image (T.parts v)))
         T.Values.restorable T.Values.same D.Error.is_out_of_memory (D.value deserializer) result }
 {
     match deserializer.open() {

@@ -1,15 +1,17 @@
 //! Fields that have a default.
 
-ghost use Rattle.std.specs.Prelude.{◌≡◌, ◌∷◌, MatchResult};
+ghost use Rattle.std.specs.Prelude.{◌≡◌, ◌∷◌, IfOk, MatchResult};
 ghost use Rattle.amqp_ser.specs.Tree.{scalar, null};
 ghost use Rattle.amqp_de.specs.Answers.{Answers};
 ghost use Rattle.amqp_de.specs.Defaults.{ReadsOr, ReadsDefaulted, RestorableDefaulted};
+ghost use Rattle.amqp_de.specs.Encoded.{Reading, ReadsPrefix};
 ghost use Rattle.amqp_de.specs.Present.{required};
 
 use crate::deserialize::Deserialize;
 use crate::deserialize_error::DeserializeError;
 use crate::deserializer::Deserializer;
 use crate::fields::{FieldSeeds, FieldValues};
+use amqp_decode::prefix::{GaveUp, split_byte};
 use std::alloc::Global;
 
 /// A field that is read as its default if it is absent or null, and the fields after it. Such a field
@@ -40,6 +42,28 @@ fn read_or<V: Deserialize + Copy, D: Deserializer>(
         return Ok(default);
     }
     match V::deserialize(alloc, deserializer) {
+        Ok(value) => Ok(value),
+        Err(error) => Err(error),
+    }
+}
+
+// Reads an encoded value after its format code, or the default from null.
+#[inline(always)]
+fn read_or_encoded<V: Deserialize + Copy>(
+    alloc: Global,
+    default: V,
+    code: u8,
+    input: &mut &[u8],
+    depth: u16,
+) -> Result<V, GaveUp>
+    ensures { IfOk result (λ x. ReadsPrefix (Reading (ReadsOr default V.reads) V.image
+        (RestorableDefaulted V.image V.restorable) V.same)
+        depth (code ∷ input.old.now) input.new.now x) }
+{
+    if code == 0x40 {
+        return Ok(default);
+    }
+    match V::read_encoded(alloc, code, input, depth) {
         Ok(value) => Ok(value),
         Err(error) => Err(error),
     }
@@ -91,5 +115,30 @@ impl<V: Deserialize + Copy, R: FieldSeeds> FieldSeeds for Defaulted<V, R> {
                 })
             }
         }
+    }
+
+    #[inline(always)]
+    fn read_fields(
+        &self,
+        alloc: Global,
+        count: u32,
+        body: &[u8],
+        depth: u16,
+    ) -> Result<FieldValues<V, R::Values>, GaveUp> {
+        if count == 0 {
+            let others = self.rest.read_fields(alloc, 0, body, depth)?;
+            return Ok(FieldValues {
+                value: self.default,
+                rest: others,
+            });
+        }
+        let (code, after) = split_byte(body)?;
+        let mut rest = after;
+        let value = read_or_encoded(alloc, self.default, code, &mut rest, depth)?;
+        let others = self.rest.read_fields(alloc, count - 1, rest, depth)?;
+        Ok(FieldValues {
+            value,
+            rest: others,
+        })
     }
 }

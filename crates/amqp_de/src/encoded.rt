@@ -2,7 +2,7 @@
 //! value.
 
 ghost use Rattle.std.specs.Prelude.{◌∷◌, IfOk};
-ghost use Rattle.amqp_ser.specs.Tree.{code as numbered, described};
+ghost use Rattle.amqp_ser.specs.Tree.{code as numbered, name, described};
 ghost use Rattle.amqp_de.specs.Fields.{OnDescribed};
 ghost use Rattle.amqp_de.specs.Encoded.{ReadsPrefix, PartsReading};
 
@@ -110,6 +110,39 @@ pub fn read_described_encoded<T: Record, K: Describes, S: DeserializeSeed<Value 
     *input = payload;
     let inside = below(depth)?;
     match seed.read_encoded(alloc, inner, input, inside) {
+        Ok(values) => Ok(values),
+        Err(error) => Err(error),
+    }
+}
+
+/// Reads the parts of a value whose descriptor is a symbol after its format code. For
+/// `Deserialize::read_encoded` of a type whose `deserialize` calls `read_named` with the same text
+/// and seed.
+///
+/// # Errors
+/// Returns `GaveUp` as `read_described_encoded` does.
+///
+/// # Memory
+/// That of `read_described_encoded`.
+///
+/// # Example
+/// For `"a:b"`, `ListSeed(named! { "x" })`, the code `00` and the bytes `a303613a62c003015001`,
+/// returns the part 1.
+pub fn read_named_encoded<T: Record, S: DeserializeSeed<Value = T::Values>>(
+    alloc: Global,
+    code: u8,
+    input: &mut &[u8],
+    depth: u16,
+    wanted: &str,
+    seed: S,
+) -> Result<T::Values, GaveUp>
+    ensures { IfOk result (λ v. ReadsPrefix
+        (PartsReading T.parts (λ t y. OnDescribed (name wanted.now) (λ u. S.reads seed u y) t)
+        (λ y. described (name wanted.now) (S.image y)) (λ y. described (name wanted.now) (S.short y))
+        S.restorable S.same)
+        depth (code ∷ input.old.now) input.new.now v) }
+{
+    match read_described_encoded::<T, &str, S>(alloc, code, input, depth, &wanted, seed) {
         Ok(values) => Ok(values),
         Err(error) => Err(error),
     }

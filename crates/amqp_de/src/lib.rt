@@ -5,6 +5,7 @@ mod access;
 mod calls;
 mod composite;
 mod composites;
+mod composites_encoded;
 mod content;
 pub mod de;
 mod defaulted;
@@ -33,8 +34,11 @@ pub use composite::{read_composite, read_named};
 pub use composites::{
     Alternatives, Composite, read_alternatives, read_composite_type, read_no_fields,
 };
+pub use composites_encoded::{read_alternatives_encoded, read_composite_type_encoded};
 pub use defaulted::Defaulted;
-pub use encoded::{read_composite_encoded, read_described_encoded, read_parts_encoded};
+pub use encoded::{
+    read_composite_encoded, read_described_encoded, read_named_encoded, read_parts_encoded,
+};
 pub use enums::{DataVariant, Either, EnumSeed, Never, UnitVariant, Variants};
 pub use fields::{FieldSeeds, FieldValues, Optional, Required};
 pub use named_record::{NamedRecord, read_composite_map, read_fields_map, read_named_map};

@@ -1,14 +1,19 @@
 -- The bytes consumed for an encoded value, after each step and at the end.
-use Rattle.std.proofs.Common.{◌≡◌, ℕ, ◌-◌, ◌<◌, ◌≤◌, false, IsTrue, List, [], ◌∷◌, ◌++◌, inl, inr, Option, None, Some, IfSome, Result, Ok, Err, IfOk, IfErr, OnErr, length, refl, sym, ap, ◌∙◌, arith, append_assoc, length-append}
+use Rattle.std.proofs.Common.{◌≡◌, ℕ, suc, ◌+◌, ◌^◌, ◌-◌, ◌<◌, ◌≤◌, false, IsTrue, List, [], ◌∷◌, ◌++◌, inl, inr, Option, None, Some, IfSome, Result, Ok, Err, IsErrOf, IfOk, IfErr, OnErr, length, take, refl, sym, ap, ◌∙◌, arith, append_assoc, length-append, length-take}
 use Rattle.std.proofs.lemmas.List.{append-nil}
+use Rattle.std.proofs.lemmas.Bool.{cases_lt}
+use Rattle.std.proofs.Math.Seq.{take-append-add, take-append_seam}
+use Rattle.std.proofs.KnownBytes.{Consumes-trans}
 use Rattle.std.specs.Io.KnownBytes.{Consumes}
-use Rattle.amqp_frame.specs.Code.{is_primitive_code, category, payload_len}
+use Rattle.amqp_frame.specs.Code.{is_primitive_code, category, size_width, body_len, payload_len}
+use Rattle.amqp_frame.specs.declared.code.Category.{Category}
 use Rattle.amqp_frame.specs.Frame.{IsFrame, IsIncomplete, IsMalformed, HasFrame, HasMalformed}
 use Rattle.amqp_frame.specs.Reader.{Takes, RunsOut}
-use Rattle.amqp_frame.specs.Taking.{TakesIncomplete, TakesMalformed, FrameRefuses, DecidedBy}
+use Rattle.amqp_frame.specs.Taking.{TakesIncomplete, TakesMalformed, FrameRefuses, PassesLimit, ExceedsLimit, RefusesWithin, DecidedBy}
 use Rattle.amqp_data.specs.declared.error.Error.{Error}
 use Rattle.amqp_data.specs.declared.error.Error.TheVariants.{OutOfMemory, TooLong, InvalidValue, InvalidFormatCode, UnexpectedEof, Io, Message}
 use Rattle.amqp_frame.proofs.Prefixes.{frame-malformed, frame-incomplete, malformed-incomplete}
+use Rattle.amqp_frame.proofs.FirstFrame.{body_len-take}
 use Rattle.amqp_frame.proofs.Open.{Open, open-less, open-malformed, open-incomplete}
 use Rattle.amqp_frame.proofs.Taking.{FallsShort}
 
@@ -32,6 +37,45 @@ ends-in-payload (Some s) None c taken code n o pos ok t r = absurd t
 ends-in-payload (Some s) (Some x) c taken code n o pos ok t r =
     let all : s ≡ taken ++ (code ∷ x) = t ∙ append_assoc taken (code ∷ []) x in
     (rw all (open-incomplete taken (code ∷ x) n pos (IsIncomplete.short code x ok r.0) o), r.1)
+
+-- the payload of a code is cut off at the limit
+short-within : (k : Category) (room : ℕ) (s : List ℕ) → room < payload_len k s → length (take room s) < payload_len k (take room s)
+short-within k room s past =
+    let len : length (take room s) ≤ room = omega (arith, length-take room s) in
+    elim (cases_lt room (size_width k)) [ inl few ↦ omega arith | inr enough ↦ (let same : body_len k (take room s) ≡ body_len k s = body_len-take k room s enough in omega arith) ]
+
+take-behind : (taken : List ℕ) (code limit : ℕ) (x : List ℕ) → length taken < limit
+    → take limit (taken ++ (code ∷ x)) ≡ taken ++ (code ∷ take (limit - (length taken + 1)) x)
+take-behind taken code limit x room =
+    let n = limit - (length taken + 1) in
+    let e : length taken + suc n ≡ limit = omega arith in
+    ap (λ m. take m (taken ++ (code ∷ x))) (sym e) ∙ take-append-add taken (code ∷ x) (suc n)
+
+pub limit-in-payload : (a b c : Option (List ℕ)) (taken : List ℕ) (code n limit : ℕ) → Open taken n → 0 < n → length taken < limit
+    → IsTrue (is_primitive_code code) → Consumes a b (taken ++ code ∷ [])
+    → PassesLimit limit (length taken + 1) (category code) b c → ExceedsLimit limit a c
+limit-in-payload None b c taken code n limit o pos room ok t (more, u, within, past) =
+    ((taken ++ code ∷ []) ++ more, Consumes-trans None b c (taken ++ code ∷ []) more t u, omega (arith, length-append (taken ++ code ∷ []) more, length-append taken (code ∷ [])), tt)
+limit-in-payload (Some s) None c taken code n limit o pos room ok t p = absurd t
+limit-in-payload (Some s) (Some x) c taken code n limit o pos room ok t (more, u, within, past) =
+    let k = limit - (length taken + 1) in
+    let all : s ≡ taken ++ (code ∷ x) = t ∙ append_assoc taken (code ∷ []) x in
+    let first : take limit s ≡ taken ++ (code ∷ take k x) = ap (take limit) all ∙ take-behind taken code limit x room in
+    let short : length (take k x) < payload_len (category code) (take k x) = short-within (category code) k x (omega arith) in (
+      (taken ++ code ∷ []) ++ more,
+      Consumes-trans (Some s) (Some x) c (taken ++ code ∷ []) more t u,
+      omega (arith, length-append (taken ++ code ∷ []) more, length-append taken (code ∷ [])),
+      rw first (open-incomplete taken (code ∷ take k x) n pos (IsIncomplete.short code (take k x) ok short) o),
+    )
+
+-- the limit is reached before a code
+pub limit-at-code : (a b : Option (List ℕ)) (taken : List ℕ) (n limit : ℕ) → Open taken n → 0 < n → length taken ≡ limit
+    → Consumes a b taken → ExceedsLimit limit a b
+limit-at-code None b taken n limit o pos full t = (taken, t, omega arith, tt)
+limit-at-code (Some s) None taken n limit o pos full t = absurd t
+limit-at-code (Some s) (Some x) taken n limit o pos full t =
+    let first : take limit s ≡ taken ++ [] = ap (take limit) t ∙ (ap (λ m. take m (taken ++ x)) (sym full) ∙ (take-append_seam taken x ∙ sym (append-nil taken))) in
+    (taken, t, omega arith, rw first (open-incomplete taken [] n pos IsIncomplete.nothing o))
 
 pub loses-code : (a b : Option (List ℕ)) (taken : List ℕ) (code n : ℕ) → Open taken n → 0 < n → 0 < code
     → is_primitive_code code ≡ false → Consumes a b (taken ++ code ∷ []) → TakesMalformed a b
@@ -82,7 +126,7 @@ decided (Err UnexpectedEof) P (Some s) new f g ok err =
       (λ _. err.0, λ _. refl),
     ))
 
--- no error loses a byte
+-- no error loses a byte, with a limit or without
 pub kept : {T : Type 0} (r : Result T Error) (old new : Option (List ℕ)) (f g : ℕ)
     → IfErr r (FrameRefuses old new f g (TakesIncomplete old new) (TakesMalformed old new)) → OnErr r (Takes old new)
 kept (Ok v) old new f g err = tt
@@ -94,3 +138,24 @@ kept (Err UnexpectedEof) (Some s) new f g err = rw err.1 (s, sym (append-nil s))
 kept (Err TooLong) old new f g err = absurd err
 kept (Err InvalidValue) old new f g err = absurd err
 kept (Err (Message words)) old new f g err = absurd err
+
+pub kept-within : (limit : ℕ) (e : Error) (old new : Option (List ℕ)) (f g : ℕ) → RefusesWithin limit old new f g e → Takes old new
+kept-within limit OutOfMemory old new f g err = kept {T = List ℕ} (Err OutOfMemory) old new f g err
+kept-within limit TooLong old new f g err = (err.0, err.1)
+kept-within limit InvalidValue old new f g err = absurd err
+kept-within limit InvalidFormatCode old new f g err = kept {T = List ℕ} (Err InvalidFormatCode) old new f g err
+kept-within limit UnexpectedEof old new f g err = kept {T = List ℕ} (Err UnexpectedEof) old new f g err
+kept-within limit Io old new f g err = kept {T = List ℕ} (Err Io) old new f g err
+kept-within limit (Message words) old new f g err = absurd err
+
+-- the greatest limit is never exceeded
+pub endless : {T : Type 0} (limit : ℕ) (e : Error) (old new : Option (List ℕ)) (f g : ℕ) → 2 ^ 64 - 1 ≤ limit
+    → (IsErrOf {T = T} (Err e) TooLong → limit < 2 ^ 64 - 1) → RefusesWithin limit old new f g e
+    → FrameRefuses old new f g (TakesIncomplete old new) (TakesMalformed old new) e
+endless limit OutOfMemory old new f g max bound r = r
+endless limit TooLong old new f g max bound r = let less = bound refl in absurd (omega arith)
+endless limit InvalidValue old new f g max bound r = r
+endless limit InvalidFormatCode old new f g max bound r = r
+endless limit UnexpectedEof old new f g max bound r = r
+endless limit Io old new f g max bound r = r
+endless limit (Message words) old new f g max bound r = r

@@ -11,7 +11,7 @@ use Rattle.amqp_frame.specs.declared.code.Category.{Category}
 use Rattle.amqp_frame.specs.declared.code.Category.TheVariants.{Fixed}
 use Rattle.amqp_frame.specs.Code.{size_width, body_len, payload_len}
 use Rattle.amqp_frame.specs.Reader.{Failed, RunsOut}
-use Rattle.amqp_frame.specs.Taking.{FrameRefuses, Moves}
+use Rattle.amqp_frame.specs.Taking.{FrameRefuses, LimitedRefuses, Moves, PassesLimit}
 use Rattle.amqp_frame.proofs.FirstFrame.{body_len-prefix}
 
 -- a failure in a later call is a failure of the sequence
@@ -33,12 +33,39 @@ refuses-later a b c f g h taken t fg gh at_end at_code Io ((more, r), fails) =
     ((taken ++ more, Consumes-trans a b c taken more t r), failed-later f g h fg gh fails)
 refuses-later a b c f g h taken t fg gh at_end at_code (Message words) r = r
 
-pub refuses-last : {T : Type 0} (r : Result T Error) (a b c : Option (List ℕ)) (f g h : ℕ)
+-- the same for a sequence with a limit
+pub limited-after : (L : Type 0) (a b c : Option (List ℕ)) (f g h : ℕ) (taken : List ℕ) {E E' C C' : Type 0} → Consumes a b taken
+    → f ≤ g → g ≤ h → (E → E') → (C → C') → (e : Error) → FrameRefuses b c g h E C e → LimitedRefuses L a c f h E' C' e
+limited-after L a b c f g h taken t fg gh at_end at_code OutOfMemory r =
+    refuses-later a b c f g h taken t fg gh at_end at_code OutOfMemory r
+limited-after L a b c f g h taken t fg gh at_end at_code TooLong r = absurd r
+limited-after L a b c f g h taken t fg gh at_end at_code InvalidValue r = r
+limited-after L a b c f g h taken t fg gh at_end at_code InvalidFormatCode r = at_code r
+limited-after L a b c f g h taken t fg gh at_end at_code UnexpectedEof r = at_end r
+limited-after L a b c f g h taken t fg gh at_end at_code Io r =
+    refuses-later a b c f g h taken t fg gh at_end at_code Io r
+limited-after L a b c f g h taken t fg gh at_end at_code (Message words) r = r
+
+-- and for a later call with a limit
+pub limited-later : (L M : Type 0) (a b c : Option (List ℕ)) (f g h : ℕ) (taken : List ℕ) {E E' C C' : Type 0} → Consumes a b taken
+    → f ≤ g → g ≤ h → (M → L) → (E → E') → (C → C') → (e : Error) → LimitedRefuses M b c g h E C e
+    → LimitedRefuses L a c f h E' C' e
+limited-later L M a b c f g h taken t fg gh at_limit at_end at_code OutOfMemory r =
+    refuses-later a b c f g h taken t fg gh at_end at_code OutOfMemory r
+limited-later L M a b c f g h taken t fg gh at_limit at_end at_code TooLong r = at_limit r
+limited-later L M a b c f g h taken t fg gh at_limit at_end at_code InvalidValue r = r
+limited-later L M a b c f g h taken t fg gh at_limit at_end at_code InvalidFormatCode r = at_code r
+limited-later L M a b c f g h taken t fg gh at_limit at_end at_code UnexpectedEof r = at_end r
+limited-later L M a b c f g h taken t fg gh at_limit at_end at_code Io r =
+    refuses-later a b c f g h taken t fg gh at_end at_code Io r
+limited-later L M a b c f g h taken t fg gh at_limit at_end at_code (Message words) r = r
+
+pub limited-last : {T : Type 0} (r : Result T Error) (L : Type 0) (a b c : Option (List ℕ)) (f g h : ℕ)
     (taken : List ℕ) {E E' C C' : Type 0} → Consumes a b taken → f ≤ g → g ≤ h → (E → E') → (C → C')
-    → IfErr r (FrameRefuses b c g h E C) → IfErr r (FrameRefuses a c f h E' C')
-refuses-last (Ok x) a b c f g h taken t fg gh at_end at_code r = tt
-refuses-last (Err e) a b c f g h taken t fg gh at_end at_code r = refuses-later a b c f g h taken t fg gh at_end at_code
-    e r
+    → IfErr r (FrameRefuses b c g h E C) → IfErr r (LimitedRefuses L a c f h E' C')
+limited-last (Ok x) L a b c f g h taken t fg gh at_end at_code r = tt
+limited-last (Err e) L a b c f g h taken t fg gh at_end at_code r =
+    limited-after L a b c f g h taken t fg gh at_end at_code e r
 
 pub runs-out-later : (a b c : Option (List ℕ)) (bytes : List ℕ) (n m : ℕ) → Consumes a b bytes → length bytes + n ≤ m
     → RunsOut b c n → RunsOut a c m
@@ -63,6 +90,16 @@ falls-short-body k (Some s) (Some x) c head n t len e r =
     let size : length s ≡ length head + length x = ap length t ∙ length-append head x in
     let told : body_len k s ≡ body_len k head = ap (body_len k) t ∙ body_len-prefix k head x (omega arith) in
     (omega (arith, r.0), r.1)
+
+-- the payload passes the limit after its size was read
+pub passes-body : (k : Category) (limit held n : ℕ) (a b : Option (List ℕ)) (head : List ℕ) → Consumes a b head
+    → length head ≡ size_width k → n ≡ body_len k head → held + length head ≤ limit → limit < held + length head + n
+    → PassesLimit limit held k a b
+passes-body k limit held n None b head t len e within past = (head, t, within, tt)
+passes-body k limit held n (Some s) None head t len e within past = absurd t
+passes-body k limit held n (Some s) (Some x) head t len e within past =
+    let told : body_len k s ≡ body_len k head = ap (body_len k) t ∙ body_len-prefix k head x (omega arith) in
+    (head, t, within, omega arith)
 
 pub moves-payload : {T : Type 0} (r : Result T Error) (k : Category) (a b c : Option (List ℕ))
     (before mid after head : List ℕ) (n : ℕ) → Consumes a b head → mid ≡ before ++ head → length head ≡ size_width k

@@ -1,17 +1,17 @@
 //! The bytes of one encoded value.
 
-ghost use Rattle.std.specs.Prelude.{◌≡◌, ◌≤◌, IfOk, IfErr, OnErr, IfSome, IsOkUnless, MatchResult};
+ghost use Rattle.std.specs.Prelude.{◌≡◌, ◌≤◌, IfOk, IfErr, OnErr, IfSome, IsOkUnless, MatchResult, length};
 ghost use Rattle.std.specs.Io.KnownBytes.{Consumes};
 ghost use Rattle.amqp_frame.specs.Frame.{IsFrame};
 ghost use Rattle.amqp_frame.specs.Reader.{Takes};
-ghost use Rattle.amqp_frame.specs.Taking.{TakesIncomplete, TakesMalformed, FrameRefuses, DecidedBy};
+ghost use Rattle.amqp_frame.specs.Taking.{TakesIncomplete, TakesMalformed, FrameRefuses, RefusesWithin, DecidedBy};
 
 use crate::frame::is_frame;
 use crate::read::Read;
 use crate::take_value::take_value;
 use amqp_data::Error;
 use bytes::Bytes;
-use std::alloc::Global;
+use std::alloc::{AllocError, Global};
 use std::marker::Model;
 
 /// The bytes of exactly one encoded value, not decoded.
@@ -33,6 +33,17 @@ impl Model for LazyValue {
     ghost invariant = { λ value. IsFrame value.bytes };
 
     ghost inverse = { λ bytes. record { bytes = bytes } };
+}
+
+impl Clone for LazyValue {
+    ghost is_clone = { λ value clone. clone ≡ value };
+
+    /// Returns a lazy value with the same bytes, which are shared and not copied.
+    fn clone(&self) -> Result<LazyValue, AllocError> {
+        Ok(LazyValue {
+            bytes: self.bytes.clone()?,
+        })
+    }
 }
 
 impl LazyValue {
@@ -77,7 +88,46 @@ impl LazyValue {
         ensures kept { OnErr result (Takes (R.left reader.old) (R.left reader.new)) }
         ensures count { R.failures reader.old ≤ R.failures reader.new }
     {
-        match take_value(alloc, reader) {
+        match take_value(alloc, reader, usize::MAX) {
+            Ok(bytes) => Ok(LazyValue { bytes }),
+            Err(error) => Err(error),
+        }
+    }
+
+    /// Reads exactly one encoded value of at most `limit` bytes, like `from_reader`.
+    ///
+    /// # Errors
+    ///
+    /// Returns [`Error::TooLong`] if no encoded value of at most `limit` bytes is next, but a longer
+    /// one can be, before a byte after the limit is requested. Returns the errors of `from_reader`
+    /// otherwise. After any error, the consumed bytes followed by the remaining bytes are the bytes
+    /// that remained before the call.
+    ///
+    /// # Memory
+    ///
+    /// Allocates as `from_reader` does, for at most `limit` bytes.
+    ///
+    /// # Example
+    ///
+    /// From `a1016145`, reads `a10161` with the limit 3. With the limit 2, the value is too long, and
+    /// `6145` remains.
+    pub fn from_reader_limited<R: Read>(
+        alloc: Global,
+        reader: &mut R,
+        limit: usize,
+    ) -> Result<LazyValue, Error>
+        // What `Ok` contains, and the bytes that remain after success.
+        ensures frame { IfOk result (λ value.
+            IsFrame value × Consumes (R.left reader.old) (R.left reader.new) value) }
+        ensures within { IfOk result (λ value. length value ≤ limit) }
+        // When each error is returned.
+        ensures refused { IfErr result (RefusesWithin limit (R.left reader.old) (R.left reader.new)
+            (R.failures reader.old) (R.failures reader.new)) }
+        // The bytes that remain after an error, and the count of failures.
+        ensures kept { OnErr result (Takes (R.left reader.old) (R.left reader.new)) }
+        ensures count { R.failures reader.old ≤ R.failures reader.new }
+    {
+        match take_value(alloc, reader, limit) {
             Ok(bytes) => Ok(LazyValue { bytes }),
             Err(error) => Err(error),
         }

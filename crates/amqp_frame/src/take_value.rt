@@ -1,11 +1,11 @@
 //! Reads the bytes of the next encoded value into a buffer.
 
-ghost use Rattle.std.specs.Prelude.{◌≡◌, ◌≤◌, ◌<◌, [], ◌∷◌, ◌++◌, IfOk, OnOk, IfErr, IfSome, IsOkUnless, Some, length};
+ghost use Rattle.std.specs.Prelude.{◌≡◌, ◌≤◌, ◌<◌, ◌-◌, ◌^◌, ◌+◌, [], ◌∷◌, ◌++◌, IfOk, OnOk, IfErr, IfSome, IsErrOf, IsOkUnless, Some, length};
 ghost use Rattle.std.specs.Io.KnownBytes.{Consumes};
 ghost use Rattle.amqp_frame.specs.Code.{category, payload_len};
 ghost use Rattle.amqp_frame.specs.Frame.{IsFrame};
 ghost use Rattle.amqp_frame.specs.Reader.{RunsOut};
-ghost use Rattle.amqp_frame.specs.Taking.{FrameRefuses, Moves, TakesIncomplete, TakesMalformed};
+ghost use Rattle.amqp_frame.specs.Taking.{FrameRefuses, LimitedRefuses, Moves, PassesLimit, RefusesWithin};
 
 use crate::code::{Category, body_len_of, category_of, is_primitive, size_width_of};
 use crate::read::Read;
@@ -31,23 +31,30 @@ const COPIED: usize = 24;
 ///
 /// Returns [`Error::InvalidFormatCode`] at an invalid code, which is the last byte consumed.
 /// Returns [`Error::UnexpectedEof`] if the input ends before the value does. No bytes then remain.
+/// Returns [`Error::TooLong`] if the value exceeds `limit` bytes, before more bytes are read.
 /// Returns [`Error::Io`] if a read fails, and [`Error::OutOfMemory`] if an allocation fails.
 ///
 /// # Example
 ///
-/// From `500140`, reads `5001`, and `40` remains.
-pub fn take_value<R: Read>(alloc: Global, reader: &mut R) -> Result<Bytes, Error>
+/// From `500140`, reads `5001`, and `40` remains. With the limit 1, the value is too long, and `0140`
+/// remains.
+#[inline(always)]
+pub fn take_value<R: Read>(alloc: Global, reader: &mut R, limit: usize) -> Result<Bytes, Error>
     ensures frame { IfOk result (λ bytes.
         IsFrame bytes × Consumes (R.left reader.old) (R.left reader.new) bytes) }
-    ensures refused { IfErr result (FrameRefuses (R.left reader.old) (R.left reader.new)
-        (R.failures reader.old) (R.failures reader.new)
-        (TakesIncomplete (R.left reader.old) (R.left reader.new))
-        (TakesMalformed (R.left reader.old) (R.left reader.new))) }
+    ensures within { IfOk result (λ bytes. length bytes ≤ limit) }
+    ensures refused { IfErr result (RefusesWithin limit (R.left reader.old) (R.left reader.new)
+        (R.failures reader.old) (R.failures reader.new)) }
+    ensures bound { IsErrOf result Error.TooLong → limit < 2 ^ 64 - 1 }
     ensures count { R.failures reader.old ≤ R.failures reader.new }
 {
     let mut taken = Vec::new(alloc);
     let mut open: u64 = 1;
     while open > 0 {
+        // With the limit `usize::MAX`, comparisons in this form are left out.
+        if taken.len() + 1 > limit {
+            return Err(Error::TooLong);
+        }
         let code = next_code(reader)?;
         if code == 0 {
             push_zero(&mut taken)?;
@@ -56,7 +63,7 @@ pub fn take_value<R: Read>(alloc: Global, reader: &mut R) -> Result<Bytes, Error
             if !is_primitive(code) {
                 return Err(Error::InvalidFormatCode);
             }
-            take_primitive(reader, &mut taken, code)?;
+            take_primitive(reader, &mut taken, code, limit)?;
             open -= 1;
         }
     }
@@ -88,15 +95,28 @@ fn push_zero(taken: &mut Vec<u8>) -> Result<(), Error>
     Ok(())
 }
 
-// Reads the payload of this code and appends the code and the payload to `taken`.
-fn take_primitive<R: Read>(reader: &mut R, taken: &mut Vec<u8>, code: u8) -> Result<(), Error>
+// Reads the payload of this code and appends the code and the payload to `taken`, which then has at
+// most `limit` bytes.
+#[inline(always)]
+fn take_primitive<R: Read>(
+    reader: &mut R,
+    taken: &mut Vec<u8>,
+    code: u8,
+    limit: usize,
+) -> Result<(), Error>
+    requires { length taken.now.items < limit }
     ensures ok { OnOk result (Moves (R.left reader.old) (R.left reader.new)
         (taken.old.items ++ code ∷ []) taken.new.items
         (λ bytes. length bytes ≡ payload_len (category code) bytes)) }
-    ensures refused { IfErr result (FrameRefuses (R.left reader.old) (R.left reader.new)
+    ensures within { OnOk result (length taken.new.items ≤ limit) }
+    ensures refused { IfErr result (LimitedRefuses
+        (PassesLimit limit (length taken.old.items + 1) (category code)
+        (R.left reader.old) (R.left reader.new))
+        (R.left reader.old) (R.left reader.new)
         (R.failures reader.old) (R.failures reader.new)
         (IfSome (R.left reader.old) (λ s.
         (length s < payload_len (category code) s) × (R.left reader.new ≡ Some []))) ⊥) }
+    ensures bound { IsErrOf result Error.TooLong → limit < 2 ^ 64 - 1 }
     ensures count { R.failures reader.old ≤ R.failures reader.new }
 {
     let category = category_of(code);
@@ -105,8 +125,15 @@ fn take_primitive<R: Read>(reader: &mut R, taken: &mut Vec<u8>, code: u8) -> Res
     }
     let mut size = [0; 4];
     let size = &mut size[..size_width_of(category)];
+    let start = taken.len() + 1 + size.len();
+    if start > limit {
+        return Err(Error::TooLong);
+    }
     read_size(reader, size)?;
     let body = body_len_of(category, size);
+    if start + body as usize > limit {
+        return Err(Error::TooLong);
+    }
     push_header(taken, code, size, body)?;
     take_bytes(reader, taken, body)
 }

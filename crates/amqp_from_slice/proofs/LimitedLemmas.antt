@@ -1,10 +1,12 @@
 -- What is returned for bytes within limits, from what is returned for the tree that they encode.
-use Rattle.std.proofs.Common.{◌≡◌, inl, inr, ℕ, List, subst}
+use Rattle.std.proofs.Common.{◌≡◌, inl, inr, ℕ, List, Option, subst}
+use Rattle.std.specs.Io.KnownBytes.{Consumes}
 use Rattle.amqp_data.specs.declared.error.Error.{Error}
+use Rattle.amqp_frame.specs.Frame.{IsFrame}
 use Rattle.amqp_ser.specs.Tree.{Tree}
 use Rattle.amqp_decode.proofs.Whole.{one-tree}
 use Rattle.amqp_de.specs.Answers.{Refuses}
-use Rattle.amqp_from_slice.specs.Limited.{IsAllowed, ReadsAllowed, levels}
+use Rattle.amqp_from_slice.specs.Limited.{IsAllowed, ReadsAllowed, RefusesNextAllowed, levels}
 use Rattle.amqp_from_slice.specs.declared.limited.Limits.{Limits}
 use Rattle.amqp_from_slice.proofs.SpelledLemmas.{IsMemory}
 
@@ -17,3 +19,9 @@ pub unread-allowed : {T : Type 0} (R : Tree → T → Type 0) (l : Limits) (bs :
     → Refuses IsMemory (R u) e → Refuses IsMemory (ReadsAllowed R l bs) e
 unread-allowed R l bs e u a (inl m) = inl m
 unread-allowed R l bs e u a (inr n) = inr (λ x r. n x (subst (λ v. R v x) (allowed-tree l bs r.0 u r.1 a) r.2))
+
+-- and not from a reader whose next encoded value has these bytes
+pub refused_next_allowed : {T : Type 0} (R : Tree → T → Type 0) (l : Limits) (old new : Option (List ℕ)) (before after : ℕ) (bs cs : List ℕ) (e : Error)
+    → IsFrame bs → Consumes old new bs → cs ≡ bs → Refuses IsMemory (ReadsAllowed R l cs) e → RefusesNextAllowed R l old new before after e
+refused_next_allowed R l old new before after bs cs e frame taken same refused =
+    inr (bs, frame, taken, subst (λ b. Refuses IsMemory (ReadsAllowed R l b) e) same refused)

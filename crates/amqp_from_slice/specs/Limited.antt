@@ -1,8 +1,14 @@
 -- Encoded values within limits, and what is read from them (AMQP 1.0 part 1, sections 1.2 and 1.6).
-use Rattle.std.specs.Prelude.{◌≤◌, ℕ, min, List, length}
+use Rattle.std.specs.Prelude.{◌≡◌, ◌≤◌, ◌⊎◌, ℕ, min, List, Option, length}
+use Rattle.std.specs.Io.KnownBytes.{Consumes}
+use Rattle.amqp_data.specs.declared.error.Error.{Error}
+use Rattle.amqp_data.specs.declared.error.Error.TheVariants.{OutOfMemory}
+use Rattle.amqp_frame.specs.Frame.{IsFrame}
+use Rattle.amqp_frame.specs.Taking.{RefusesWithin}
 use Rattle.amqp_ser.specs.Tree.{Tree}
 use Rattle.amqp_decode.specs.Spells.{Spells}
 use Rattle.amqp_decode.specs.WithoutBytes.{elements_without_bytes}
+use Rattle.amqp_de.specs.Answers.{Refuses}
 use Rattle.amqp_from_slice.specs.declared.limited.Limits.{Limits}
 
 -- The levels that the limits permit, at most 256.
@@ -17,3 +23,17 @@ IsAllowed limits bytes t =
 -- The bytes are within the limits, and encode a tree that is read as x.
 abbrev pub ReadsAllowed : {T : Type 0} → (Tree → T → Type 0) → Limits → List ℕ → T → Type 0
 ReadsAllowed R limits bytes x = (t : Tree) × IsAllowed limits bytes t × R t x
+
+-- One encoded value was consumed, and it is within the limits and read as x.
+abbrev pub ReadsNextAllowed : {T : Type 0} → (Tree → T → Type 0) → Limits → Option (List ℕ) → Option (List ℕ) → T → Type 0
+ReadsNextAllowed R limits old new x =
+    (bytes : List ℕ) × IsFrame bytes × Consumes old new bytes × ReadsAllowed R limits bytes x
+
+-- The error is that of a reader without an encoded value of at most the limit of bytes; or one
+-- encoded value was consumed, and the error is out of memory unless nothing is read from it within
+-- the limits.
+abbrev pub RefusesNextAllowed : {T : Type 0} → (Tree → T → Type 0) → Limits → Option (List ℕ) → Option (List ℕ) → ℕ → ℕ → Error → Type 0
+RefusesNextAllowed {T} R limits old new before after e =
+    RefusesWithin limits.bytes old new before after e
+    ⊎ ((bytes : List ℕ) × IsFrame bytes × Consumes old new bytes
+    × Refuses (λ f. f ≡ OutOfMemory) (λ (x : T). ReadsAllowed R limits bytes x) e)

@@ -16,5 +16,5 @@ mod round_trip;
 pub use lazy::ReadLazy;
 pub use limited::{Limits, from_slice_limited};
 pub use read::from_slice;
-pub use reader::from_reader;
+pub use reader::{from_reader, from_reader_limited};
 pub use round_trip::round_trip_bytes;

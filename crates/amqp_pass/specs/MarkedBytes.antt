@@ -3,6 +3,7 @@
 use Rattle.std.specs.Prelude.{◌≡◌, ◌≤◌, ℕ, List, ◌∷◌, Option, Some, true, length}
 use Rattle.amqp_ser.specs.Tree.{Scalar, decimal32, decimal64, decimal128, uuid, binary, Tree, scalar}
 use Rattle.amqp_ser.specs.Marked.{with_marker}
+use Rattle.amqp_ser.specs.Ranged.{AreBytes, IsRangedScalar}
 use Rattle.amqp_ser.specs.Scalars.{scalar_code, scalar_payload, scalar_form}
 use Rattle.amqp_ser.specs.Writable.{scalar_fits}
 use Rattle.amqp_pass.specs.Position.{the_marker}
@@ -29,3 +30,4 @@ pub record IsExact (m : ScalarMarker) (bs : List ℕ) (code : ℕ) : Type 0 wher
   pub payload : scalar_payload (exact_scalar m bs) ≡ bs
   pub fits_it : scalar_fits (exact_scalar m bs) ≡ true
   pub short : length bs ≤ 16
+  pub ranged : AreBytes bs → IsRangedScalar (exact_scalar m bs)

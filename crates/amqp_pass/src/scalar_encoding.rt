@@ -2,6 +2,7 @@
 
 ghost use Rattle.std.specs.Prelude.{◌≡◌, ◌≤◌, length};
 ghost use Rattle.amqp_ser.specs.Fixed.{fixed_scalar};
+ghost use Rattle.amqp_ser.specs.Ranged.{IsRangedScalar};
 ghost use Rattle.amqp_ser.specs.Scalars.{scalar_code, scalar_form, scalar_payload};
 
 use amqp_data::EncodingCodes;
@@ -74,6 +75,7 @@ impl ScalarEncoding {
         ensures code { result.code ≡ scalar_code (fixed_scalar fixed) }
         ensures payload { form_payload result ≡ scalar_payload (fixed_scalar fixed) }
         ensures few { result.width ≤ 8 }
+        ensures ranged { IsRangedScalar (fixed_scalar fixed) }
     {
         match fixed {
             Fixed::Null => ScalarEncoding::new(EncodingCodes::Null as u8, 0, 0),

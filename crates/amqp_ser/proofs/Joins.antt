@@ -2,6 +2,7 @@
 use Rattle.std.proofs.Common.{◌≡◌, ℕ, ◌+◌, List, [], ◌∷◌, ◌++◌, Option, Some, None, ◌&&◌, refl, ap, sym, ◌∙◌, arith, append_assoc}
 use Rattle.amqp_ser.specs.Tree.{Tree, Trees, no_trees, more, count}
 use Rattle.amqp_ser.specs.Compounds.{all_trees, prepend, as_kind}
+use Rattle.amqp_ser.specs.Ranged.{AreRanged}
 use Rattle.amqp_ser.specs.Encoding.{encoding, payload, encoding_each, payload_each, constructor}
 use Rattle.amqp_ser.specs.Writable.{same_constructor, each_constructor, uniform_arrays, uniform_arrays_each, within_limits, within_limits_each, inside, inside_each}
 use Rattle.amqp_ser.specs.declared.kind.CompoundKind.{CompoundKind}
@@ -58,6 +59,16 @@ each-join c (more t ts) us = ap (λ b. same_constructor c (constructor t) && b) 
 pub inside-join : (ts us : Trees) → inside_each (join ts us) ≡ (inside_each ts && inside_each us)
 inside-join no_trees us = refl
 inside-join (more t ts) us = ap (λ b. inside t && b) (inside-join ts us) ∙ sym (and_assoc (inside t) (inside_each ts) (inside_each us))
+
+-- Trees in range, joined, are in range.
+pub ranged-join : (ts us : Trees) → AreRanged ts → AreRanged us → AreRanged (join ts us)
+ranged-join no_trees us a b = b
+ranged-join (more t ts) us a b = (a.0, ranged-join ts us a.1 b)
+
+-- The first of trees in range are in range.
+pub ranged-left : (ts us : Trees) → AreRanged (join ts us) → AreRanged ts
+ranged-left no_trees us h = tt
+ranged-left (more t ts) us h = (h.0, ranged-left ts us h.1)
 
 pub kind_none : (k : CompoundKind) → as_kind k None ≡ None
 kind_none kind.List = refl

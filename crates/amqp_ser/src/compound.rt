@@ -9,6 +9,7 @@ pub(crate) mod described;
 pub(crate) mod feed;
 mod list_field;
 mod map;
+mod results;
 mod sequence;
 mod struct_variant;
 mod structs;
@@ -16,6 +17,7 @@ mod tuple_struct;
 mod variant;
 
 pub use map::SerializeMap;
+pub use results::Compound;
 pub use sequence::{SerializeSeq, SerializeTuple};
 pub use struct_variant::SerializeStructVariant;
 pub use structs::SerializeStruct;

@@ -28,7 +28,7 @@ pub use calls::compounds::SerializeCompounds;
 pub use calls::scalars::SerializeScalars;
 pub use composite::{ListOf, MapOf, SymbolMapOf, VariantOf};
 pub use compound::{
-    SerializeMap, SerializeSeq, SerializeStruct, SerializeStructVariant, SerializeTuple,
+    Compound, SerializeMap, SerializeSeq, SerializeStruct, SerializeStructVariant, SerializeTuple,
     SerializeTupleStruct, SerializeTupleVariant,
 };
 pub use fields::{Field, Fields, Keys};

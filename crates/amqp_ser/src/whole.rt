@@ -7,6 +7,7 @@ ghost use Rattle.amqp_ser.specs.Encoding.{encoding};
 ghost use Rattle.amqp_ser.specs.Writable.{within_limits, uniform_arrays, inside, writable};
 ghost use Rattle.amqp_ser.specs.Extends.{Extends};
 ghost use Rattle.amqp_ser.specs.Headers.{headers_of};
+ghost use Rattle.amqp_ser.specs.Ranged.{IsRanged};
 ghost use Rattle.amqp_ser.specs.Untyped.{IsUntyped};
 
 use crate::header::Header;
@@ -31,10 +32,11 @@ pub trait Whole {
     /// # Example
     /// The string `a` is `a10161`, of length 3.
     fn whole_len(&self) -> Option<usize>
-        ensures { IfSome result (λ n. (within_limits (whole_tree self.now) ≡ true)
+        ensures measured { IfSome result (λ n. (within_limits (whole_tree self.now) ≡ true)
             × ((uniform_arrays (whole_tree self.now) ≡ true)
             × ((inside (whole_tree self.now) ≡ true)
-            × (n ≡ length (encoding (whole_tree self.now)))))) };
+            × (n ≡ length (encoding (whole_tree self.now)))))) }
+        ensures ranged { IfSome result (λ _. IsRanged (whole_tree self.now)) };
 
     /// Returns the encoding, or `None` if the value is not encoded, as for a tree that cannot be
     /// written or if an allocation fails.
@@ -58,7 +60,8 @@ pub trait Whole {
             × ((inside (whole_tree self.now) ≡ true)
             × ((n ≡ length (encoding (whole_tree self.now)))
             × ((headers.new.items ≡ headers.old.items ++ headers_of (whole_tree self.now))
-            × IsUntyped (whole_tree self.now)))))) };
+            × IsUntyped (whole_tree self.now)))))) }
+        ensures ranged { IfSome result (λ _. IsRanged (whole_tree self.now)) };
 
     /// Appends the encoding with these headers, from index `taken` on, which is then the index
     /// after them. Returns `false` if that fails, as with other headers than those of the value.

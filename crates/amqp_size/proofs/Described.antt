@@ -4,6 +4,7 @@ use Rattle.amqp_pass.specs.declared.size_error.SizeError.{SizeError}
 use Rattle.amqp_pass.specs.declared.size_error.SizeError.TheVariants as error
 use Rattle.amqp_ser.specs.Tree.{Scalar, null, bool, ubyte, ushort, uint, ulong, byte, short, int, long, float, double, decimal32, decimal64, decimal128, char, timestamp, uuid, binary, string, symbol, Descriptor, name, code, Tree, scalar, list, array, map, described, variant, lazy, transparent}
 use Rattle.amqp_ser.specs.Limits.{is_length}
+use Rattle.amqp_ser.specs.Ranged.{IsRanged, IsRangedScalar, IsRangedDescriptor}
 use Rattle.amqp_ser.specs.Scalars.{scalar_form}
 use Rattle.amqp_ser.specs.Encoding.{encoding, descriptor_form}
 use Rattle.amqp_ser.specs.Writable.{uniform_arrays, within_limits, scalar_fits, descriptor_fits}
@@ -59,28 +60,64 @@ of_tree (variant i t) x h = cc
 of_tree (lazy bs) x h = cc
 of_tree (transparent ts) x h = cc
 
+-- A descriptor in range, by its scalar.
+ranged_scalar : (s : Scalar) (x : Descriptor) → scalar_descriptor s ≡ Some x → IsRangedScalar s → IsRangedDescriptor x
+ranged_scalar (ulong n) x h r = let e : code n ≡ x = cc in subst IsRangedDescriptor e r
+ranged_scalar (symbol bs) x h r = let e : name bs ≡ x = cc in subst IsRangedDescriptor e r
+ranged_scalar null x h r = cc
+ranged_scalar (bool b) x h r = cc
+ranged_scalar (ubyte n) x h r = cc
+ranged_scalar (ushort n) x h r = cc
+ranged_scalar (uint n) x h r = cc
+ranged_scalar (byte z) x h r = cc
+ranged_scalar (short z) x h r = cc
+ranged_scalar (int z) x h r = cc
+ranged_scalar (long z) x h r = cc
+ranged_scalar (float n) x h r = cc
+ranged_scalar (double n) x h r = cc
+ranged_scalar (decimal32 bs) x h r = cc
+ranged_scalar (decimal64 bs) x h r = cc
+ranged_scalar (decimal128 bs) x h r = cc
+ranged_scalar (char n) x h r = cc
+ranged_scalar (timestamp z) x h r = cc
+ranged_scalar (uuid bs) x h r = cc
+ranged_scalar (binary bs) x h r = cc
+ranged_scalar (string bs) x h r = cc
+
+-- The same for a tree that is a descriptor.
+ranged_tree : (t : Tree) (x : Descriptor) → descriptor_of (Some t) ≡ Some x → IsRanged t → IsRangedDescriptor x
+ranged_tree (scalar s) x h r = ranged_scalar s x h r
+ranged_tree (list ts) x h r = cc
+ranged_tree (array ts) x h r = cc
+ranged_tree (map ps) x h r = cc
+ranged_tree (described d t) x h r = cc
+ranged_tree (variant i t) x h r = cc
+ranged_tree (lazy bs) x h r = cc
+ranged_tree (transparent ts) x h r = cc
+
 pub some_of : (o : Option Descriptor) → is_some o ≡ true → (x : Descriptor) × (o ≡ Some x)
 some_of None h = cc
 some_of (Some x) h = (x, refl)
 
--- A tree that is measured at the position of a descriptor is a descriptor within its limit.
+-- A tree that is measured at the position of a descriptor is a descriptor within its limit and in
+-- range.
 pub counted_descriptor : (d : Option Tree) (n : ℕ) (after : Context) → AtPosition position.Descriptor d (Ok n) after →
-    (x : Descriptor) × ((descriptor_of d ≡ Some x) × ((n ≡ length (descriptor_form x)) × (descriptor_fits x ≡ true)))
+    (x : Descriptor) × ((descriptor_of d ≡ Some x) × ((n ≡ length (descriptor_form x)) × ((descriptor_fits x ≡ true) × IsRangedDescriptor x)))
 counted_descriptor None n after h = absurd h
 counted_descriptor (Some t) n after h =
     let s = some_of (descriptor_of (Some t)) h.suited in
     let e = of_tree t s.0 s.1 in
-    (s.0, (s.1, (h.len ∙ ap length e.1.0, sym e.0 ∙ h.within_limits_it)))
+    (s.0, (s.1, (h.len ∙ ap length e.1.0, (sym e.0 ∙ h.within_limits_it, ranged_tree t s.0 s.1 h.ranged))))
 
 pub length-described : (x : Descriptor) (t : Tree) (n : ℕ) → n ≡ length (descriptor_form x) → length (encoding (described x t)) ≡ n + 1 + length (encoding t)
 length-described x t n e = simp length-append (omega arith)
 
 value_step : (p : Position) (k : ℕ) (b : BasePosition) (x : Descriptor) → without_prefix p ≡ base_position b → ((t : Tree) → within_limits_at (position.Value k b) t ≡ within_limits_at p (described x t)) → ((t : Tree) → suits (position.Value k b) t ≡ suits p (described x t)) →
-    ((t : Tree) → suits p (described x t) ≡ true → extent (position.Value k b) t ≡ extent p (described x t)) → ((t : Tree) → next p (described x t) ≡ base_position b) →
+    ((t : Tree) → suits p (described x t) ≡ true → extent (position.Value k b) t ≡ extent p (described x t)) → ((t : Tree) → next p (described x t) ≡ base_position b) → IsRangedDescriptor x →
     (t : Option Tree) (r : Result ℕ SizeError) (after : Context) → AtPosition (position.Value k b) t r after → AtPosition p (as_described (Some x) t) r after
-value_step p k b x same limit fitting len then None (Ok n) after h = absurd h
-value_step p k b x same limit fitting len then None (Err e) after h = (h.0, h.1 ∙ ap context.Plain (sym same))
-value_step p k b x same limit fitting len then (Some t) (Ok n) after h =
+value_step p k b x same limit fitting len then g None (Ok n) after h = absurd h
+value_step p k b x same limit fitting len then g None (Err e) after h = (h.0, h.1 ∙ ap context.Plain (sym same))
+value_step p k b x same limit fitting len then g (Some t) (Ok n) after h =
     let s = sym (fitting t) ∙ h.suited in
     record {
       within_limits_it = sym (limit t) ∙ h.within_limits_it;
@@ -88,10 +125,11 @@ value_step p k b x same limit fitting len then (Some t) (Ok n) after h =
       suited = s;
       len = h.len ∙ len t s;
       position = h.position ∙ ap context.Plain (sym (then t));
+      ranged = (g, h.ranged);
     }
-value_step p k b x same limit fitting len then (Some t) (Err error.TooLong) after h = (sym (limit t) ∙ h.0, h.1 ∙ ap context.Plain (sym same))
-value_step p k b x same limit fitting len then (Some t) (Err error.InvalidValue) after h = (ap (λ s. uniform_arrays t && s) (sym (fitting t)) ∙ h.0, h.1 ∙ ap context.Plain (sym same))
-value_step p k b x same limit fitting len then (Some t) (Err e) after h = absurd h.0
+value_step p k b x same limit fitting len then g (Some t) (Err error.TooLong) after h = (sym (limit t) ∙ h.0, h.1 ∙ ap context.Plain (sym same))
+value_step p k b x same limit fitting len then g (Some t) (Err error.InvalidValue) after h = (ap (λ s. uniform_arrays t && s) (sym (fitting t)) ∙ h.0, h.1 ∙ ap context.Plain (sym same))
+value_step p k b x same limit fitting len then g (Some t) (Err e) after h = absurd h.0
 
 -- The limits of a described value at a position.
 nested : (a b f w : Bool) → f ≡ true → (a ≡ true → b ≡ true) → (a && w) ≡ (a && (b && (f && w)))
@@ -141,32 +179,32 @@ answered : (u v : Context) (t : Option Tree) (r : Result ℕ SizeError) (after :
 answered u v t r after q h = subst (λ w. AtPosition (position_of w) (meant w t) r after) q h
 
 -- A result that is permitted for the value is permitted for the described value.
-pub described_step : (u v : Context) (n : ℕ) (x : Descriptor) → described_context u n ≡ Some v → n ≡ length (descriptor_form x) → descriptor_fits x ≡ true →
+pub described_step : (u v : Context) (n : ℕ) (x : Descriptor) → described_context u n ≡ Some v → n ≡ length (descriptor_form x) → descriptor_fits x ≡ true → IsRangedDescriptor x →
     (t : Option Tree) (r : Result ℕ SizeError) (after : Context) → AtPosition (position_of v) (meant v t) r after → AtPosition (position_of u) (meant u (as_described (Some x) t)) r after
-described_step (context.Plain position.Root) v n x s e f t r after h =
-    value_step position.Root (n + 1) base.Root x refl (λ t. limit_here x n e f t) (λ t. refl) (λ t q. sym (length-described x t n e)) (λ t. refl) t r after
+described_step (context.Plain position.Root) v n x s e f g t r after h =
+    value_step position.Root (n + 1) base.Root x refl (λ t. limit_here x n e f t) (λ t. refl) (λ t q. sym (length-described x t n e)) (λ t. refl) g t r after
     (answered (context.Plain (position.Value (n + 1) base.Root)) v t r after (some_context _ v s) h)
-described_step (context.Plain position.InCompound) v n x s e f t r after h =
-    value_step position.InCompound (n + 1) base.InCompound x refl (λ t. limit_here x n e f t) (λ t. refl) (λ t q. sym (length-described x t n e)) (λ t. refl) t r after
+described_step (context.Plain position.InCompound) v n x s e f g t r after h =
+    value_step position.InCompound (n + 1) base.InCompound x refl (λ t. limit_here x n e f t) (λ t. refl) (λ t q. sym (length-described x t n e)) (λ t. refl) g t r after
     (answered (context.Plain (position.Value (n + 1) base.InCompound)) v t r after (some_context _ v s) h)
-described_step (context.Plain position.FirstElement) v n x s e f t r after h =
-    value_step position.FirstElement (n + 1) base.FirstElement x refl (λ t. limit_here x n e f t) (λ t. refl) (λ t q. absurd (never q)) (λ t. refl) t r after
+described_step (context.Plain position.FirstElement) v n x s e f g t r after h =
+    value_step position.FirstElement (n + 1) base.FirstElement x refl (λ t. limit_here x n e f t) (λ t. refl) (λ t q. absurd (never q)) (λ t. refl) g t r after
     (answered (context.Plain (position.Value (n + 1) base.FirstElement)) v t r after (some_context _ v s) h)
-described_step (context.Plain (position.OtherElement c)) v n x s e f t r after h =
-    value_step (position.OtherElement c) (n + 1) (base.OtherElement c) x refl (λ t. limit_here x n e f t) (λ t. refl) (λ t q. absurd (never q)) (λ t. refl) t r after
+described_step (context.Plain (position.OtherElement c)) v n x s e f g t r after h =
+    value_step (position.OtherElement c) (n + 1) (base.OtherElement c) x refl (λ t. limit_here x n e f t) (λ t. refl) (λ t q. absurd (never q)) (λ t. refl) g t r after
     (answered (context.Plain (position.Value (n + 1) (base.OtherElement c))) v t r after (some_context _ v s) h)
-described_step (context.Plain position.Descriptor) v n x s e f t r after h = cc
-described_step (context.Plain (position.Value k b)) v n x s e f t r after h =
+described_step (context.Plain position.Descriptor) v n x s e f g t r after h = cc
+described_step (context.Plain (position.Value k b)) v n x s e f g t r after h =
     value_step (position.Value k b) (k + (n + 1)) b x refl (λ t. limit_after x n k e f t) (λ t. refl)
-    (λ t q. let len = length-described x t n e in omega arith) (λ t. refl) t r after
+    (λ t q. let len = length-described x t n e in omega arith) (λ t. refl) g t r after
     (answered (context.Plain (position.Value (k + (n + 1)) b)) v t r after (some_context _ v s) h)
-described_step (context.Array p) v n x s e f t r after h =
+described_step (context.Array p) v n x s e f g t r after h =
     subst (λ o. AtPosition p o r after) (sym (no_array_described x t)) (answered (context.Nothing p) v t r after (some_context _ v s) h)
-described_step (context.Transparent p) v n x s e f t r after h =
+described_step (context.Transparent p) v n x s e f g t r after h =
     subst (λ o. AtPosition p o r after) (sym (no_transparent_described x t)) (answered (context.Nothing p) v t r after (some_context _ v s) h)
-described_step (context.Scalar m p) v n x s e f t r after h =
+described_step (context.Scalar m p) v n x s e f g t r after h =
     subst (λ o. AtPosition p o r after) (sym (no_scalar_described m x t)) (answered (context.Nothing p) v t r after (some_context _ v s) h)
-described_step (context.Nothing p) v n x s e f t r after h = answered (context.Nothing p) v t r after (some_context _ v s) h
+described_step (context.Nothing p) v n x s e f g t r after h = answered (context.Nothing p) v t r after (some_context _ v s) h
 
 -- After the value, the serializer is at the position of the described value.
 pub described_rest : (u v : Context) (n : ℕ) → described_context u n ≡ Some v → without_prefix (position_of u) ≡ without_prefix (position_of v)

@@ -3,13 +3,14 @@ use Rattle.std.proofs.Common.{◌≡◌, ℕ, ◌+◌, ◌≤◌, List, [], ◌�
 use Rattle.amqp_pass.specs.declared.size_error.SizeError.{SizeError}
 use Rattle.amqp_pass.specs.declared.size_error.SizeError.TheVariants as error
 use Rattle.amqp_ser.specs.Tree.{Tree, Trees, no_trees, more}
+use Rattle.amqp_ser.specs.Ranged.{AreRanged}
 use Rattle.amqp_ser.specs.Encoding.{constructor}
 use Rattle.amqp_ser.specs.Writable.{same_constructor, each_constructor, uniform_arrays, uniform_arrays_each, within_limits, within_limits_each, inside, inside_each}
 use Rattle.amqp_ser.specs.Compounds.{all_trees, prepend, tree_of_parts, paired}
 use Rattle.amqp_ser.specs.declared.kind.CompoundKind.{CompoundKind}
 use Rattle.amqp_ser.specs.declared.kind.CompoundKind.TheVariants as kinds
 use Rattle.amqp_ser.proofs.Bools.{nat_eq-refl, both, left_true, right_true, le_true, is_le}
-use Rattle.amqp_ser.proofs.Joins.{join, joined, all_trees-append, uniform_arrays-join, within_limits-join, inside-join, each-join, count-join}
+use Rattle.amqp_ser.proofs.Joins.{join, joined, all_trees-append, uniform_arrays-join, within_limits-join, inside-join, each-join, count-join, ranged-join, ranged-left}
 use Rattle.amqp_ser.proofs.Last.{last_off, paired-last}
 use Rattle.amqp_ser.proofs.Pairing.{even}
 use Rattle.amqp_pass.specs.Position.{position_of, meant, without_prefix, limit_of, resolved_kind_of, is_array, is_gathered, element, next, suits, form}
@@ -121,6 +122,7 @@ taken_part start kind compound new ps h t size after k a b d e few f was small =
         within_limits_parts = within_limits-join ts (more t no_trees) ∙ both (within_limits_each ts) (within_limits t && true) h.fed.within_limits_parts (both (within_limits t) true (sym (within_inner arr ts t) ∙ k.within_limits_it) refl);
         inside_parts = inside-join ts (more t no_trees) ∙ both (inside_each ts) (inside t && true) h.fed.inside_parts (both (inside t) true (suited_inside arr ts t h.fed.one k.suited) refl);
         one = ap (λ x. one_in x us) c ∙ more_one arr ts t h.fed.one k.suited;
+        ranged_parts = ranged-join ts (more t no_trees) h.fed.ranged_parts (k.ranged, tt);
       };
     }
 
@@ -146,15 +148,15 @@ no_array (context.Transparent p) = refl
 no_array (context.Scalar m p) = refl
 no_array (context.Nothing p) = refl
 
-one_less : (us ts : Trees) (p : Option Tree) → joined (Some us) (prepend p (Some no_trees)) ≡ Some ts → uniform_arrays_each ts ≡ true → within_limits_each ts ≡ true → inside_each ts ≡ true →
-    (uniform_arrays_each us ≡ true) × ((within_limits_each us ≡ true) × (inside_each us ≡ true))
-one_less us ts None e a w i = cc
-one_less us ts (Some t) e a w i =
+one_less : (us ts : Trees) (p : Option Tree) → joined (Some us) (prepend p (Some no_trees)) ≡ Some ts → uniform_arrays_each ts ≡ true → within_limits_each ts ≡ true → inside_each ts ≡ true → AreRanged ts →
+    (uniform_arrays_each us ≡ true) × ((within_limits_each us ≡ true) × ((inside_each us ≡ true) × AreRanged us))
+one_less us ts None e a w i r = cc
+one_less us ts (Some t) e a w i r =
     let same : ts ≡ join us (more t no_trees) = cc in (
       left_true (uniform_arrays_each us) _ (sym (uniform_arrays-join us (more t no_trees)) ∙ sym (ap uniform_arrays_each same) ∙ a),
       (
         left_true (within_limits_each us) _ (sym (within_limits-join us (more t no_trees)) ∙ sym (ap within_limits_each same) ∙ w),
-        left_true (inside_each us) _ (sym (inside-join us (more t no_trees)) ∙ sym (ap inside_each same) ∙ i),
+        (left_true (inside_each us) _ (sym (inside-join us (more t no_trees)) ∙ sym (ap inside_each same) ∙ i), ranged-left us (more t no_trees) (subst AreRanged same r)),
       ),
     )
 
@@ -168,7 +170,7 @@ undone start compound new ps p h even a b d e f small =
     let c : is_array new.resolved_kind ≡ is_array compound.resolved_kind = ap is_array b in
     let now : is_array new.resolved_kind ≡ false = c ∙ plain in
     let trees : joined (Some was.us) (prepend p (Some no_trees)) ≡ Some h.ts = sym (ap (λ o. joined o (prepend p (Some no_trees))) was.trees) ∙ sym (all_trees-append ps (p ∷ [])) ∙ h.trees in
-    let less = one_less was.us h.ts p trees h.fed.uniform_arrays_parts h.fed.within_limits_parts h.fed.inside_parts in
+    let less = one_less was.us h.ts p trees h.fed.uniform_arrays_parts h.fed.within_limits_parts h.fed.inside_parts h.fed.ranged_parts in
     record {
       ts = was.us;
       trees = was.trees;
@@ -184,8 +186,9 @@ undone start compound new ps p h even a b d e f small =
         inner_context = f ∙ h.fed.inner_context ∙ ap (λ x. context.Plain (inner_position_of x h.ts)) plain ∙ ap (λ x. context.Plain (inner_position_of x was.us)) (sym now);
         uniform_arrays_parts = less.0;
         within_limits_parts = less.1.0;
-        inside_parts = less.1.1;
+        inside_parts = less.1.1.0;
         one = ap (λ x. one_in x was.us) now;
+        ranged_parts = less.1.1.1;
       };
     }
   where

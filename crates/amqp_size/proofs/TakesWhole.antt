@@ -3,6 +3,7 @@ use Rattle.std.proofs.Common.{◌≡◌, ℕ, Option, Some, None, Result, Ok, Er
 use Rattle.std.specs.Option.{MatchOption, IfSome}
 use Rattle.amqp_ser.specs.Tree.{Tree, scalar, list, array, map, described, variant, lazy, transparent}
 use Rattle.amqp_ser.specs.Encoding.{encoding}
+use Rattle.amqp_ser.specs.Ranged.{IsRanged}
 use Rattle.amqp_ser.specs.Writable.{within_limits, uniform_arrays, inside, placed}
 use Rattle.amqp_pass.specs.Position.{position_of, meant}
 use Rattle.amqp_pass.specs.WholePosition.{Root, InCompound, FirstElement, OtherElement, Descriptor, Value}
@@ -23,22 +24,22 @@ placed_inside (lazy bs) h = refl
 placed_inside (transparent ts) h = cc
 
 pub whole_at : (u : Context) (t : Tree) (n : ℕ) → TakesWhole u
-    → (within_limits t ≡ true) × ((uniform_arrays t ≡ true) × ((inside t ≡ true) × (n ≡ length (encoding t))))
+    → (within_limits t ≡ true) × ((uniform_arrays t ≡ true) × ((inside t ≡ true) × (n ≡ length (encoding t)))) → IsRanged t
     → AtPosition (position_of u) (meant u (Some t)) (Ok n) u
-whole_at (context.Plain Root) t n k h = record { within_limits_it = h.0; uniform_arrays_it = h.1.0; suited = placed_inside t h.1.1.0; len = h.1.1.1; position = refl }
-whole_at (context.Plain InCompound) t n k h = record { within_limits_it = h.0; uniform_arrays_it = h.1.0; suited = h.1.1.0; len = h.1.1.1; position = refl }
-whole_at (context.Plain FirstElement) t n k h = absurd k
-whole_at (context.Plain (OtherElement c)) t n k h = absurd k
-whole_at (context.Plain Descriptor) t n k h = absurd k
-whole_at (context.Plain (Value m b)) t n k h = absurd k
-whole_at (context.Array p) t n k h = absurd k
-whole_at (context.Transparent p) t n k h = absurd k
-whole_at (context.Scalar m p) t n k h = absurd k
-whole_at (context.Nothing p) t n k h = absurd k
+whole_at (context.Plain Root) t n k h g = record { within_limits_it = h.0; uniform_arrays_it = h.1.0; suited = placed_inside t h.1.1.0; len = h.1.1.1; position = refl; ranged = g }
+whole_at (context.Plain InCompound) t n k h g = record { within_limits_it = h.0; uniform_arrays_it = h.1.0; suited = h.1.1.0; len = h.1.1.1; position = refl; ranged = g }
+whole_at (context.Plain FirstElement) t n k h g = absurd k
+whole_at (context.Plain (OtherElement c)) t n k h g = absurd k
+whole_at (context.Plain Descriptor) t n k h g = absurd k
+whole_at (context.Plain (Value m b)) t n k h g = absurd k
+whole_at (context.Array p) t n k h g = absurd k
+whole_at (context.Transparent p) t n k h g = absurd k
+whole_at (context.Scalar m p) t n k h g = absurd k
+whole_at (context.Nothing p) t n k h g = absurd k
 
 -- The result of a value that is measured at once, or nothing.
 pub measured_at : (s after : SizeSerializer) (t : Tree) (r : Option ℕ) → TakesWhole s.context → after.context ≡ s.context
-    → IfSome r (λ n. (within_limits t ≡ true) × ((uniform_arrays t ≡ true) × ((inside t ≡ true) × (n ≡ length (encoding t)))))
+    → IfSome r (λ n. (within_limits t ≡ true) × ((uniform_arrays t ≡ true) × ((inside t ≡ true) × (n ≡ length (encoding t))))) → IfSome r (λ _. IsRanged t)
     → MatchOption r ((o : Option Tree) (a : Result ℕ SizeError) (end : SizeSerializer) → SizePermits after o a end → SizePermits s o a end) (λ n. SizePermits s (Some t) (Ok n) after)
-measured_at s after t None k same h = λ o a end p. subst (λ u. AtPosition (position_of u) (meant u o) a end.context) same p
-measured_at s after t (Some n) k same h = subst (λ u. AtPosition (position_of s.context) (meant s.context (Some t)) (Ok n) u) (sym same) (whole_at s.context t n k h)
+measured_at s after t None k same h g = λ o a end p. subst (λ u. AtPosition (position_of u) (meant u o) a end.context) same p
+measured_at s after t (Some n) k same h g = subst (λ u. AtPosition (position_of s.context) (meant s.context (Some t)) (Ok n) u) (sym same) (whole_at s.context t n k h g)

@@ -11,7 +11,7 @@ use Rattle.amqp_pass.specs.Refused.{refuses_none}
 use Rattle.amqp_ser.specs.declared.kind.CompoundKind.{CompoundKind}
 use Rattle.amqp_ser.specs.declared.kind.CompoundKind.TheVariants as kinds
 use Rattle.amqp_ser.proofs.Bools.{both, and_assoc, left_false, right_false, one_false, le_false}
-use Rattle.amqp_ser.proofs.Joins.{join, joined, all_trees-append, encoding_each-join, uniform_arrays-join, within_limits-join}
+use Rattle.amqp_ser.proofs.Joins.{join, joined, all_trees-append, encoding_each-join, uniform_arrays-join, within_limits-join, ranged-join}
 use Rattle.amqp_pass.specs.Position.{position_of, meant, without_prefix, suits, resolved_kind_of, takes_described}
 use Rattle.amqp_size.specs.SizeSerializer.{AtPosition, refused, Counted, HoldsTransparent}
 use Rattle.amqp_pass.specs.WholePosition.{Position}
@@ -79,6 +79,7 @@ taken_transparent start kind compound new ps h t size after k a b d f =
       uniform_arrays_parts = uniform_arrays-join h.ts (more t no_trees) ∙ both (uniform_arrays_each h.ts) (uniform_arrays t && true) h.uniform_arrays_parts (both (uniform_arrays t) true k.uniform_arrays_it refl);
       within_limits_parts = within_limits-join h.ts (more t no_trees) ∙ both (within_limits_each h.ts) (within_limits t && true) h.within_limits_parts (both (within_limits t) true k.within_limits_it refl);
       placed_parts = placed-join h.ts (more t no_trees) ∙ both (placed_each h.ts) (placed t && true) h.placed_parts (both (placed t) true k.suited refl);
+      ranged_parts = ranged-join h.ts (more t no_trees) h.ranged_parts (k.ranged, tt);
     }
 
 -- Only the root accepts it.

@@ -6,6 +6,7 @@ use Rattle.amqp_ser.specs.Limits.{fits}
 use Rattle.amqp_ser.specs.Scalars.{scalar_form}
 use Rattle.amqp_ser.specs.Encoding.{encoding, payload, encoding_each, encoding_pairs}
 use Rattle.amqp_ser.specs.Writable.{uniform_arrays, within_limits, within_limits_each, within_limits_pairs, inside}
+use Rattle.amqp_ser.specs.Ranged.{AreRanged, HasRangedPairs}
 use Rattle.amqp_ser.specs.Compounds.{as_kind, as_map, as_variant, in_pairs, only, tree_of_parts, complete}
 use Rattle.amqp_ser.specs.Marked.{with_marker, marked_tree}
 use Rattle.amqp_ser.specs.declared.kind.CompoundKind.{CompoundKind}
@@ -184,6 +185,7 @@ pub record MapEnd (start : SizeSerializer) (kind : CompoundKind) (compound : Ope
   pub inside_it : inside (map pairs) ≡ true
   pub ordinary : length (encoding (map pairs)) ≡ map_width compound.sum
   pub wide : length (payload (map pairs)) ≡ compound.sum + 8
+  pub ranged_it : HasRangedPairs pairs
 
 pub map_end : (start : SizeSerializer) (kind : CompoundKind) (compound : OpenCompound) (ps : List (Option Tree)) → HoldsGathered start kind compound ps → complete kind ps ≡ true → compound.resolved_kind ≡ resolved_kind.Map → MapEnd start kind compound ps
 unfolding tree_of_parts
@@ -203,6 +205,7 @@ map_end start kind compound ps h done s =
       inside_it = p.inside_too ∙ h.fed.inside_parts;
       ordinary = length-counted 0xc1 0xd1 (pair_count p.pairs * 2) (encoding_pairs p.pairs) ∙ ap map_width (sym sum);
       wide = omega arith;
+      ranged_it = p.ranged_too h.fed.ranged_parts;
     }
 
 -- A variant with fields that has ended.
@@ -213,6 +216,7 @@ pub record FieldsEnd (i : ℕ) (start : SizeSerializer) (kind : CompoundKind) (p
   pub uniform_arrays_it : uniform_arrays (list ts) ≡ true
   pub inside_it : inside (list ts) ≡ true
   pub bytes : length (scalar_form (uint i) ++ encoding (list ts)) ≡ uint_width i + size
+  pub ranged_it : AreRanged ts
 
 pub fields_end : (i : ℕ) (start : SizeSerializer) (kind : CompoundKind) (compound : OpenCompound) (ps : List (Option Tree)) (size : ℕ) → HoldsGathered start kind compound ps → compound.resolved_kind ≡ resolved_kind.Variant i → size ≡ list_width compound.sum → FieldsEnd i start kind ps size
 unfolding tree_of_parts
@@ -230,4 +234,5 @@ fields_end i start kind compound ps size h s e =
       uniform_arrays_it = h.fed.uniform_arrays_parts;
       inside_it = h.fed.inside_parts;
       bytes = length-variant i (list h.ts) size len;
+      ranged_it = h.fed.ranged_parts;
     }

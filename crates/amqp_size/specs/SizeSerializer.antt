@@ -4,6 +4,7 @@ use Rattle.amqp_pass.specs.declared.size_error.SizeError.{SizeError}
 use Rattle.amqp_pass.specs.declared.size_error.SizeError.TheVariants as error
 use Rattle.amqp_ser.specs.Tree.{Tree, Trees, no_trees, more, count}
 use Rattle.amqp_ser.specs.Limits.{fits, is_count}
+use Rattle.amqp_ser.specs.Ranged.{IsRanged, AreRanged}
 use Rattle.amqp_ser.specs.Encoding.{encoding_each, payload_each, array_constructor, constructor}
 use Rattle.amqp_ser.specs.Writable.{within_limits_each, uniform_arrays, uniform_arrays_each, inside_each, one_constructor, placed_each}
 use Rattle.amqp_ser.specs.Compounds.{all_trees, paired}
@@ -20,13 +21,14 @@ use Rattle.amqp_pass.specs.declared.resolved_kind.ResolvedKind.TheVariants as re
 use Rattle.amqp_size.specs.declared.serializer.SizeSerializer.{SizeSerializer}
 use Rattle.amqp_pass.specs.declared.open_compound.OpenCompound.{OpenCompound}
 
--- The tree is accepted at this position and measured.
+-- The tree is accepted at this position and measured. It is in range.
 pub record Counted (p : Position) (t : Tree) (n : ℕ) (after : Context) : Type 0 where
   pub within_limits_it : within_limits_at p t ≡ true
   pub uniform_arrays_it : uniform_arrays t ≡ true
   pub suited : suits p t ≡ true
   pub len : n ≡ extent p t
   pub position : after ≡ Plain (next p t)
+  pub ranged : IsRanged t
 
 -- `TooLong` only if a limit is exceeded, and `InvalidValue` only for another reason.
 abbrev pub refused : Position → Tree → SizeError → Type 0
@@ -84,6 +86,7 @@ pub record FedTrees (compound : OpenCompound) (ts : Trees) : Type 0 where
   pub within_limits_parts : within_limits_each ts ≡ true
   pub inside_parts : inside_each ts ≡ true
   pub one : one_in (is_array compound.resolved_kind) ts ≡ true
+  pub ranged_parts : AreRanged ts
 
 -- The parts of an open compound before the last one.
 pub record BeforeLast (compound : OpenCompound) (qs : List (Option Tree)) : Type 0 where
@@ -114,6 +117,7 @@ pub record HoldsTransparent (start : SizeSerializer) (kind : CompoundKind) (comp
   pub uniform_arrays_parts : uniform_arrays_each ts ≡ true
   pub within_limits_parts : within_limits_each ts ≡ true
   pub placed_parts : placed_each ts ≡ true
+  pub ranged_parts : AreRanged ts
 
 -- The part of a single compound has the position of the compound.
 abbrev pub SingleParts : SizeSerializer → OpenCompound → List (Option Tree) → Type 0

@@ -1,8 +1,10 @@
 //! The sizes of trees at each position, and the trees that a position rejects.
 
-ghost use Rattle.std.specs.Prelude.{◌≡◌, ◌+◌, ◌&&◌, ℕ, List, Some, None, Err, true, length};
+ghost use Rattle.std.specs.Prelude.{◌≡◌, ◌<◌, ◌^◌, ◌+◌, ◌&&◌, ℕ, List, Some, None, Err, true, length};
+ghost use Rattle.amqp_frame.specs.Whole.{is_frame};
 ghost use Rattle.amqp_ser.specs.Tree.{Tree, Trees, lazy, transparent};
 ghost use Rattle.amqp_ser.specs.Limits.{fits};
+ghost use Rattle.amqp_ser.specs.Ranged.{IsRanged, AreRanged, AreBytes};
 ghost use Rattle.amqp_ser.specs.Encoding.{encoding, encoding_each, payload, constructor};
 ghost use Rattle.amqp_ser.specs.Writable.{uniform_arrays, uniform_arrays_each, within_limits, within_limits_each, inside, placed, placed_each};
 ghost use Rattle.amqp_pass.specs.Width.{uint_width, text_width, map_width};
@@ -58,7 +60,7 @@ impl SizeSerializer {
             constructor t ≡ Some code → within_limits t ≡ true → uniform_arrays t ≡ true →
             inside t ≡ true →
             placed t ≡ true →
-            length (encoding t) ≡ ordinary → length (payload t) ≡ wide →
+            length (encoding t) ≡ ordinary → length (payload t) ≡ wide → IsRanged t →
             AtPosition (position_at position prefix_len) (Some t) result self.new.context }
     {
         match position {
@@ -98,7 +100,7 @@ impl SizeSerializer {
             constructor t ≡ Some code → uniform_arrays t ≡ true → inside t ≡ true →
             placed t ≡ true →
             within_limits t ≡ fits n →
-            length (encoding t) ≡ text_width n → length (payload t) ≡ n + 4 →
+            length (encoding t) ≡ text_width n → length (payload t) ≡ n + 4 → IsRanged t →
             AtPosition (position_at position prefix_len) (Some t) result self.new.context }
     {
         // A short text is within the limit: one comparison is enough.
@@ -152,6 +154,7 @@ impl SizeSerializer {
     /// Like `size_at`, for a lazy tree of `len` bytes.
     ///
     /// A lazy tree has no constructor, so it is neither an array element nor a descriptor.
+    #[tactic(auto, using(amqp_frame::proofs::Whole::passes_frame))]
     #[inline(always)]
     fn lazy(
         &mut self,
@@ -160,7 +163,7 @@ impl SizeSerializer {
         len: usize,
     ) -> Result<usize, SizeError>
         ensures { self.old.context ≡ Plain (without_prefix (position_at position prefix_len)) →
-            (bytes : List ℕ) → length bytes ≡ len →
+            (bytes : List ℕ) → length bytes ≡ len → AreBytes bytes → is_frame bytes ≡ true →
             AtPosition (position_at position prefix_len) (Some (lazy bytes)) result
             self.new.context }
     {
@@ -190,7 +193,7 @@ impl SizeSerializer {
             within_limits v ≡ true →
             within_limits t ≡ (fits (uint_width index + size) && within_limits v) →
             length (encoding t) ≡ map_width (uint_width index + size) →
-            length (payload t) ≡ uint_width index + size + 8 →
+            length (payload t) ≡ uint_width index + size + 8 → (index < 2 ^ 32 → IsRanged t) →
             AtPosition (position_at position prefix_len) (Some t) result self.new.context }
     {
         let body = add_within(uint_width(index), size, MAX_LEN)?;
@@ -217,7 +220,7 @@ impl SizeSerializer {
         ensures { self.old.context ≡ Plain (without_prefix (position_at position prefix_len)) →
             (ts : Trees) →
             within_limits_each ts ≡ true → uniform_arrays_each ts ≡ true → placed_each ts ≡ true →
-            sum ≡ length (encoding_each ts) →
+            sum ≡ length (encoding_each ts) → AreRanged ts →
             AtPosition (position_at position prefix_len) (Some (transparent ts)) result
             self.new.context }
     {

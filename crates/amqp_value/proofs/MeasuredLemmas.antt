@@ -3,6 +3,7 @@ use Rattle.std.proofs.Common.{◌≡◌, ℕ, suc, ◌+◌, ◌*◌, ◌<◌, �
 use Rattle.std.proofs.lemmas.Bool.Decides.{nat_tests}
 use Rattle.amqp_ser.specs.Tree.{Scalar, null, bool, ubyte, ushort, uint, ulong, byte, short, int, long, float, double, decimal32, decimal64, decimal128, char, timestamp, uuid, binary, string, symbol, Descriptor, Tree, Trees, Pairs, scalar, list, array, map, described, variant, lazy, transparent, no_trees, more, no_pairs, pair, count, pair_count}
 use Rattle.amqp_ser.specs.Limits.{fits, is_short}
+use Rattle.amqp_ser.specs.Ranged.{IsRanged, IsRangedScalar, IsRangedDescriptor, AreRanged}
 use Rattle.amqp_ser.specs.Scalars.{scalar_form, scalar_payload, scalar_code}
 use Rattle.amqp_ser.specs.Encoding.{encoding, encoding_each, encoding_pairs, payload_each, array_constructor, constructor, code_list, counted, wide, list_form, array_form, descriptor_form}
 use Rattle.amqp_ser.specs.Writable.{scalar_fits, same_constructor, each_constructor, descriptor_fits}
@@ -10,7 +11,7 @@ use Rattle.amqp_ser.proofs.Bools.{both, le_true, is_le, left_true, right_true}
 use Rattle.amqp_pass.specs.Width.{map_width, list_width, array_width}
 use Rattle.amqp_value.specs.TreeOf.{tree_of, all_of, pairs_trees}
 use Rattle.amqp_value.specs.declared.value.Value.{Value}
-use Rattle.amqp_value.specs.Measured.{Measured, MeasuredPayload, MeasuredEach, MeasuredPayloads, MeasuredContent, MeasuredPairs, IsLength, width_for}
+use Rattle.amqp_value.specs.Measured.{Measured, MeasuredPayload, MeasuredEach, MeasuredPayloads, MeasuredContent, MeasuredPairs, HasRange, HaveRanges, IsLength, width_for}
 
 if_len : (t : Bool) (xs ys : List ℕ) (m n : ℕ) → length xs ≡ m → length ys ≡ n → length (if t then xs else ys) ≡ (if t then m else n)
 if_len true xs ys m n a b = a
@@ -30,11 +31,11 @@ length-wide : (n : ℕ) (body : List ℕ) → length (wide n body) ≡ length bo
 length-wide n body = omega arith
 
 -- A scalar.
-pub of_scalar : (s : Scalar) (n : ℕ) → scalar_fits s ≡ true → n ≡ length (scalar_form s) → Measured (scalar s) n
-of_scalar s n f e = record { within_limits_it = f; uniform_arrays_it = refl; inside_it = refl; len = e }
+pub of_scalar : (s : Scalar) (n : ℕ) → scalar_fits s ≡ true → n ≡ length (scalar_form s) → IsRangedScalar s → Measured (scalar s) n
+of_scalar s n f e r = record { within_limits_it = f; uniform_arrays_it = refl; inside_it = refl; len = e; ranged = r }
 
-pub of_scalar_payload : (s : Scalar) (n : ℕ) → scalar_fits s ≡ true → n ≡ length (scalar_payload s) → MeasuredPayload (scalar s) n
-of_scalar_payload s n f e = record { within_limits_it = f; uniform_arrays_it = refl; inside_it = refl; len = e }
+pub of_scalar_payload : (s : Scalar) (n : ℕ) → scalar_fits s ≡ true → n ≡ length (scalar_payload s) → IsRangedScalar s → MeasuredPayload (scalar s) n
+of_scalar_payload s n f e r = record { within_limits_it = f; uniform_arrays_it = refl; inside_it = refl; len = e; ranged = r }
 
 -- Compounds.
 pub of_list : (ts : Trees) (m n : ℕ) → MeasuredEach ts m → fits m ≡ true → n ≡ list_width m → Measured (list ts) n
@@ -43,6 +44,7 @@ of_list ts m n e f w = record {
   uniform_arrays_it = e.uniform_arrays_all;
   inside_it = e.inside_all;
   len = w ∙ (ap list_width e.len ∙ sym (length-list_form (count ts) (encoding_each ts)));
+  ranged = e.ranged_all;
 }
 
 pub of_map : (ps : Pairs) (m n : ℕ) → MeasuredPairs ps m → fits m ≡ true → n ≡ map_width m → Measured (map ps) n
@@ -51,6 +53,7 @@ of_map ps m n e f w = record {
   uniform_arrays_it = e.uniform_arrays_all;
   inside_it = e.inside_all;
   len = w ∙ (ap map_width e.len ∙ sym (length-counted 0xc1 0xd1 (pair_count ps * 2) (encoding_pairs ps)));
+  ranged = e.ranged_all;
 }
 
 pub of_array : (ts : Trees) (c m n : ℕ) → count ts ≡ c → MeasuredContent ts m → fits m ≡ true → c ≤ 4294967295 → n ≡ array_width m c → Measured (array ts) n
@@ -59,10 +62,11 @@ of_array ts c m n k e f few w = record {
   uniform_arrays_it = both _ _ e.one e.uniform_arrays_all;
   inside_it = e.inside_all;
   len = w ∙ (ap (λ x. array_width x c) e.len ∙ (ap (array_width (length (array_constructor ts ++ payload_each ts))) (sym k) ∙ sym (length-array_form (count ts) (array_constructor ts ++ payload_each ts))));
+  ranged = e.ranged_all;
 }
 
-pub of_described : (d : Descriptor) (t : Tree) (m n whole : ℕ) → descriptor_fits d ≡ true → m ≡ length (descriptor_form d) → Measured t n → whole ≡ m + 1 + n → IsLength whole → Measured (described d t) whole
-of_described d t m n whole f l e w ok =
+pub of_described : (d : Descriptor) (t : Tree) (m n whole : ℕ) → descriptor_fits d ≡ true → m ≡ length (descriptor_form d) → IsRangedDescriptor d → Measured t n → whole ≡ m + 1 + n → IsLength whole → Measured (described d t) whole
+of_described d t m n whole f l r e w ok =
     let a = e.len in
     let s : whole ≡ length (encoding (described d t)) = simp length-append (omega arith) in
     record {
@@ -70,6 +74,7 @@ of_described d t m n whole f l e w ok =
       uniform_arrays_it = e.uniform_arrays_it;
       inside_it = e.inside_it;
       len = s;
+      ranged = (r, e.ranged);
     }
 
 pub of_list_payload : (ts : Trees) (m n : ℕ) → MeasuredEach ts m → fits m ≡ true → n ≡ m + 8 → MeasuredPayload (list ts) n
@@ -78,6 +83,7 @@ of_list_payload ts m n e f w = record {
   uniform_arrays_it = e.uniform_arrays_all;
   inside_it = e.inside_all;
   len = let a = e.len in let b = length-wide (count ts) (encoding_each ts) in omega arith;
+  ranged = e.ranged_all;
 }
 
 pub of_map_payload : (ps : Pairs) (m n : ℕ) → MeasuredPairs ps m → fits m ≡ true → n ≡ m + 8 → MeasuredPayload (map ps) n
@@ -86,6 +92,7 @@ of_map_payload ps m n e f w = record {
   uniform_arrays_it = e.uniform_arrays_all;
   inside_it = e.inside_all;
   len = let a = e.len in let b = length-wide (pair_count ps * 2) (encoding_pairs ps) in omega arith;
+  ranged = e.ranged_all;
 }
 
 pub of_array_payload : (ts : Trees) (c m n : ℕ) → count ts ≡ c → MeasuredContent ts m → fits m ≡ true → c ≤ 4294967295 → n ≡ m + 8 → MeasuredPayload (array ts) n
@@ -94,6 +101,7 @@ of_array_payload ts c m n k e f few w = record {
   uniform_arrays_it = both _ _ e.one e.uniform_arrays_all;
   inside_it = e.inside_all;
   len = let a = e.len in let b = length-wide (count ts) (array_constructor ts ++ payload_each ts) in omega arith;
+  ranged = e.ranged_all;
 }
 
 -- Lists of parts.
@@ -103,6 +111,7 @@ cons t ts m n k a b e = record {
   uniform_arrays_all = both _ _ a.uniform_arrays_it b.uniform_arrays_all;
   inside_all = both _ _ a.inside_it b.inside_all;
   len = let x = a.len in let y = b.len in simp length-append (omega arith);
+  ranged_all = (a.ranged, b.ranged_all);
 }
 
 cons_payload : (t : Tree) (ts : Trees) (m n k : ℕ) → MeasuredPayload t m → MeasuredPayloads ts n → k ≡ n + m → MeasuredPayloads (more t ts) k
@@ -111,6 +120,7 @@ cons_payload t ts m n k a b e = record {
   uniform_arrays_all = both _ _ a.uniform_arrays_it b.uniform_arrays_all;
   inside_all = both _ _ a.inside_it b.inside_all;
   len = let x = a.len in let y = b.len in simp length-append (omega arith);
+  ranged_all = (a.ranged, b.ranged_all);
 }
 
 cons_pair : (k v : Tree) (ps : Pairs) (m n o s : ℕ) → Measured k m → Measured v n → MeasuredPairs ps o → s ≡ o + n + m → MeasuredPairs (pair k v ps) s
@@ -119,16 +129,17 @@ cons_pair k v ps m n o s a b c e = record {
   uniform_arrays_all = both _ _ a.uniform_arrays_it (both _ _ b.uniform_arrays_it c.uniform_arrays_all);
   inside_all = both _ _ a.inside_it (both _ _ b.inside_it c.inside_all);
   len = let x = a.len in let y = b.len in let z = c.len in simp length-append (omega arith);
+  ranged_all = (a.ranged, b.ranged, c.ranged_all);
 }
 
 pub none_each : MeasuredEach no_trees 0
-none_each = record { within_limits_all = refl; uniform_arrays_all = refl; inside_all = refl; len = refl }
+none_each = record { within_limits_all = refl; uniform_arrays_all = refl; inside_all = refl; len = refl; ranged_all = tt }
 
 pub none_payloads : MeasuredPayloads no_trees 0
-none_payloads = record { within_limits_all = refl; uniform_arrays_all = refl; inside_all = refl; len = refl }
+none_payloads = record { within_limits_all = refl; uniform_arrays_all = refl; inside_all = refl; len = refl; ranged_all = tt }
 
 pub none_pairs : MeasuredPairs no_pairs 0
-none_pairs = record { within_limits_all = refl; uniform_arrays_all = refl; inside_all = refl; len = refl }
+none_pairs = record { within_limits_all = refl; uniform_arrays_all = refl; inside_all = refl; len = refl; ranged_all = tt }
 
 abbrev cap : ℕ
 cap = 18446744073709551615
@@ -208,22 +219,22 @@ number_width (symbol bs) c e h = let h' = subst (λ k. 0 < width_for k) (sym e) 
 pub no_width : (d c : ℕ) → nat_eq c d ≡ true → width_for d ≡ 0 → 0 < width_for c → ⊥
 no_width d c e z h = let k : c ≡ d = grind (arith, nat_tests) in let h' = subst (λ x. 0 < width_for x) k h in omega arith
 
-number : (t : Tree) (c : ℕ) → same_constructor (Some c) (constructor t) ≡ true → 0 < width_for c → MeasuredPayload t (width_for c)
-number (scalar s) c e h =
+number : (t : Tree) (c : ℕ) → same_constructor (Some c) (constructor t) ≡ true → 0 < width_for c → HasRange t → MeasuredPayload t (width_for c)
+number (scalar s) c e h r =
     let k : scalar_code s ≡ c = grind (arith, nat_tests) in
-    let w = number_width s c k h in of_scalar_payload s (width_for c) w.1 (sym w.0)
-number (list ts) c e h = absurd (no_width 0xd0 c e refl h)
-number (array ts) c e h = absurd (no_width 0xf0 c e refl h)
-number (map ps) c e h = absurd (no_width 0xd1 c e refl h)
-number (described d t) c e h = cc
-number (variant i t) c e h = absurd (no_width 0xd1 c e refl h)
-number (lazy bs) c e h = cc
-number (transparent ts) c e h = cc
+    let w = number_width s c k h in of_scalar_payload s (width_for c) w.1 (sym w.0) r
+number (list ts) c e h r = absurd (no_width 0xd0 c e refl h)
+number (array ts) c e h r = absurd (no_width 0xf0 c e refl h)
+number (map ps) c e h r = absurd (no_width 0xd1 c e refl h)
+number (described d t) c e h r = cc
+number (variant i t) c e h r = absurd (no_width 0xd1 c e refl h)
+number (lazy bs) c e h r = cc
+number (transparent ts) c e h r = cc
 
-numbers : (ts : Trees) (c : ℕ) → each_constructor (Some c) ts ≡ true → 0 < width_for c → MeasuredPayloads ts (count ts * width_for c)
-numbers no_trees c e h = let z : 0 ≡ count no_trees * width_for c = omega arith in subst (λ n. MeasuredPayloads no_trees n) z none_payloads
-numbers (more t ts) c e h =
-    cons_payload t ts (width_for c) (count ts * width_for c) (count (more t ts) * width_for c) (number t c (left_true _ _ e) h) (numbers ts c (right_true _ _ e) h) (omega arith)
+numbers : (ts : Trees) (c : ℕ) → each_constructor (Some c) ts ≡ true → 0 < width_for c → HaveRanges ts → MeasuredPayloads ts (count ts * width_for c)
+numbers no_trees c e h r = let z : 0 ≡ count no_trees * width_for c = omega arith in subst (λ n. MeasuredPayloads no_trees n) z none_payloads
+numbers (more t ts) c e h r =
+    cons_payload t ts (width_for c) (count ts * width_for c) (count (more t ts) * width_for c) (number t c (left_true _ _ e) h r.0) (numbers ts c (right_true _ _ e) h r.1) (omega arith)
 
 -- The content of an array, from its payloads: its constructor is that of the first element.
 pub of_content : (xs : List Value) (v : Value) (c m n : ℕ) → 0 < length xs → v ≡ get_or xs 0 v → constructor (tree_of v) ≡ Some c → each_constructor (Some c) (all_of xs) ≡ true → MeasuredPayloads (all_of xs) m → n ≡ m + 1 → MeasuredContent (all_of xs) n
@@ -234,12 +245,13 @@ of_content (x ∷ xs) v c m n lt is k each p e =
       within_limits_all = p.within_limits_all;
       uniform_arrays_all = p.uniform_arrays_all;
       inside_all = p.inside_all;
+      ranged_all = p.ranged_all;
       one = subst (λ y. each_constructor y (all_of (x ∷ xs)) ≡ true) (sym o) each;
       len = subst (λ y. n ≡ length (code_list y ++ payload_each (all_of (x ∷ xs)))) (sym o) (let l = p.len in omega arith);
     }
 
-pub of_numbers : (xs : List Value) (v : Value) (c m n : ℕ) → 0 < length xs → v ≡ get_or xs 0 v → constructor (tree_of v) ≡ Some c → each_constructor (Some c) (all_of xs) ≡ true → 0 < width_for c → m ≡ min (length xs * width_for c) cap → n ≡ min (m + 1) cap → IsLength n → MeasuredContent (all_of xs) n
-of_numbers xs v c m n lt is k each h e f ok =
+pub of_numbers : (xs : List Value) (v : Value) (c m n : ℕ) → 0 < length xs → v ≡ get_or xs 0 v → constructor (tree_of v) ≡ Some c → each_constructor (Some c) (all_of xs) ≡ true → 0 < width_for c → HaveRanges (all_of xs) → m ≡ min (length xs * width_for c) cap → n ≡ min (m + 1) cap → IsLength n → MeasuredContent (all_of xs) n
+of_numbers xs v c m n lt is k each h r e f ok =
     let l = count-all_of xs in
-    let p : MeasuredPayloads (all_of xs) (length xs * width_for c) = subst (λ y. MeasuredPayloads (all_of xs) (y * width_for c)) l (numbers (all_of xs) c each h) in
+    let p : MeasuredPayloads (all_of xs) (length xs * width_for c) = subst (λ y. MeasuredPayloads (all_of xs) (y * width_for c)) l (numbers (all_of xs) c each h r) in
     of_content xs v c (length xs * width_for c) n lt is k each p (omega arith)

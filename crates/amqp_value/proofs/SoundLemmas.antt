@@ -8,7 +8,7 @@ use Rattle.amqp_data.specs.declared.array.Array.{Array}
 use Rattle.amqp_data.specs.declared.described.Described.{Described}
 use Rattle.amqp_data.specs.declared.ordered_map.OrderedMap.{OrderedMap}
 use Rattle.amqp_ser.specs.Tree as tree
-use Rattle.amqp_ser.specs.Tree.{Tree, Trees, Pairs, scalar, list, array, described, variant, lazy, transparent, no_trees, more, no_pairs, pair}
+use Rattle.amqp_ser.specs.Tree.{Tree, Trees, Pairs, scalar, list, array, described, variant, lazy, transparent, no_trees, more, no_pairs, pair, is_transparent}
 use Rattle.amqp_ser.specs.Same.{same_tree}
 use Rattle.amqp_ser.specs.Untyped.{IsUntyped, AreUntyped, HasUntypedPairs}
 use Rattle.amqp_value.specs.AsMap.{read_as_map, each_as_map, pairs_as_map}
@@ -109,6 +109,20 @@ built y = subst IsUntyped (sym (fold-roll-Value Tree tree_step (map-Value Such V
 
 pub tree_of-untyped : (v : Value) → IsUntyped (tree_of v)
 tree_of-untyped = ind-Value (λ v. IsUntyped (tree_of v)) (λ x y is. subst (λ z. IsUntyped (tree_of (roll-Value z))) is (built y))
+
+-- The root of a value's tree is not transparent.
+opaque_root : (t : Tree) → IsUntyped t → is_transparent t ≡ false
+opaque_root (scalar s) u = refl
+opaque_root (list ts) u = refl
+opaque_root (array ts) u = refl
+opaque_root (tree.map ps) u = refl
+opaque_root (described d t) u = refl
+opaque_root (variant n t) u = refl
+opaque_root (lazy bs) u = refl
+opaque_root (transparent ts) u = absurd u
+
+pub never_transparent : (v : Value) → is_transparent (tree_of v) ≡ false
+never_transparent v = opaque_root (tree_of v) (tree_of-untyped v)
 
 mutual
   as_map-untyped : (t : Tree) → IsUntyped t → read_as_map t ≡ t

@@ -14,6 +14,11 @@ pub mod Sound
 pub mod MapBuilder
 pub mod Places
 pub mod ShortKeys
+pub mod Accessors
+pub mod ValueLends
+pub mod ValueKind
+pub mod Builds
+pub mod FaultError
 pub mod EscapedBytes
 pub mod Measured
 pub mod Noted

@@ -5,6 +5,8 @@
 //! which a value serializer returns, is encoded.
 #![tactic(auto)]
 
+mod accessors;
+mod build;
 mod distinct;
 mod escape;
 mod format_code;
@@ -19,6 +21,9 @@ mod try_from;
 mod value;
 mod whole;
 
+pub use accessors::ValueKind;
+pub use amqp_data::SymbolRef;
+pub use build::{BuildList, BuildMap, IntoValue};
 pub use map_builder::MapBuilder;
 pub use short_keys::is_short_key;
 pub use try_from::ConvertFault;

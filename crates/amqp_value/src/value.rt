@@ -19,7 +19,7 @@ use amqp_data::{
 ///
 /// # Example
 /// The list of the string `a` and null is encoded as `c00502a1016140`.
-#[derive(Debug, PartialEq, Eq, PartialOrd, Ord, Hash, Drop)]
+#[derive(Debug, PartialEq, Eq, PartialOrd, Ord, Hash, Clone, Drop)]
 pub enum Value {
     /// A value with a descriptor: `00`, the descriptor and the value (sections 1.1.2 and 1.2).
     Described(Box<Described<Value>>),

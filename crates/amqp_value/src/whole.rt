@@ -13,6 +13,7 @@ mod constructors;
 mod headers;
 mod measuring;
 mod numbers;
+mod ranges;
 mod rare;
 mod sizes;
 mod writing;

@@ -52,7 +52,7 @@ go_well : (o : Option Tree) (n : ℕ) (u : Context) (hs : List Header) (s after 
 go_well None n u hs s after h l r w = absurd h
 go_well (Some t) n u hs s after h l r w =
     let written : Written Root s t after = w (meets t n u hs s h l r) in
-    (both (within_limits t) (uniform_arrays t && placed t) h.within_limits_it (both (uniform_arrays t) (placed t) h.uniform_arrays_it h.suited), written.out ∙ ap (λ b. b ++ encoding t) r.out)
+    (both (within_limits t) (uniform_arrays t && placed t) h.within_limits_it (both (uniform_arrays t) (placed t) h.uniform_arrays_it h.suited), written.out ∙ ap (λ b. b ++ encoding t) r.out, h.ranged)
 
 no_refusal : (t : Tree) (n : ℕ) (u v : Context) (e : SizeError) → AtPosition Root (Some t) (Ok n) u → AtPosition Root (Some t) (Err e) v → ⊥
 no_refusal t n u v size_error.TooLong h w = no_false (sym w.0 ∙ h.within_limits_it)

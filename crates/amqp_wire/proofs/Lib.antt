@@ -19,3 +19,4 @@ pub mod DescribedBytes
 pub mod EndedBytes
 pub mod EncodePasses
 pub mod WholeValues
+pub mod LazyRoot

@@ -1,8 +1,9 @@
 -- Values that are measured and written at once.
 use Rattle.std.proofs.Common.{◌≡◌, ℕ, ◌*◌, Option, Some, None, true, ◌&&◌, Result, Ok, length, is_some, refl, sym, subst}
-use Rattle.std.specs.Option.{MatchOption}
+use Rattle.std.specs.Option.{IfSome, MatchOption}
 use Rattle.amqp_ser.specs.Tree.{Tree, Trees, Pairs, scalar, list, array, map, described, variant, lazy, transparent, no_trees, more, no_pairs, pair, count, pair_count}
 use Rattle.amqp_ser.specs.Encoding.{encoding_each, encoding_pairs, constructor}
+use Rattle.amqp_ser.specs.Ranged.{IsRanged}
 use Rattle.amqp_ser.specs.Untyped.{IsUntyped, AreUntyped, HasUntypedPairs}
 use Rattle.amqp_ser.specs.Writable.{uniform_arrays, uniform_arrays_each, uniform_arrays_pairs, same_constructor, each_constructor, one_constructor}
 use Rattle.amqp_ser.proofs.Bools.{both, left_true, right_true, le_true}
@@ -81,23 +82,23 @@ meant_plain (context.Scalar m p) o k = absurd k
 meant_plain (context.Nothing p) o k = absurd k
 
 -- The first pass.
-pub whole_listed : (s after : Measurer) (t : Tree) (n : ℕ) → TakesWhole s.size.context → after.size.context ≡ s.size.context → AddsWhole t n s.table.headers.items after.table.headers.items → MeasurerPermits s (Some t) (Ok n) after
-whole_listed s after t n k same h =
+pub whole_listed : (s after : Measurer) (t : Tree) (n : ℕ) → TakesWhole s.size.context → after.size.context ≡ s.size.context → AddsWhole t n s.table.headers.items after.table.headers.items → IsRanged t → MeasurerPermits s (Some t) (Ok n) after
+whole_listed s after t n k same h g =
     let u = s.size.context in
     let all = h.1.1.1.1 in (
       (headers_of t, all.0),
       (
-        subst (λ w. AtPosition (position_of u) (meant u (Some t)) (Ok n) w) (sym same) (whole_at u t n k (h.0, (h.1.0, (h.1.1.0, h.1.1.1.0)))),
+        subst (λ w. AtPosition (position_of u) (meant u (Some t)) (Ok n) w) (sym same) (whole_at u t n k (h.0, (h.1.0, (h.1.1.0, h.1.1.1.0))) g),
         subst (λ o. listed o s.table.headers.items after.table.headers.items) (sym (meant_plain u (Some t) k)) (all.0, dense_untyped t all.1 h.1.0),
       ),
     )
 
 -- The result of the first pass, or nothing.
 pub measured_whole : (s after : Measurer) (t : Tree) (r : Option ℕ) → TakesWhole s.size.context → after.size.context ≡ s.size.context →
-    MatchOption r (after.table.headers.items ≡ s.table.headers.items) (λ n. AddsWhole t n s.table.headers.items after.table.headers.items) →
+    MatchOption r (after.table.headers.items ≡ s.table.headers.items) (λ n. AddsWhole t n s.table.headers.items after.table.headers.items) → IfSome r (λ _. IsRanged t) →
     MatchOption r ((o : Option Tree) (a : Result ℕ SizeError) (end : Measurer) → MeasurerPermits after o a end → MeasurerPermits s o a end) (λ n. MeasurerPermits s (Some t) (Ok n) after)
-measured_whole s after t None k same h = λ o a end p. permits_same s after o a end same h p
-measured_whole s after t (Some n) k same h = whole_listed s after t n k same h
+measured_whole s after t None k same h g = λ o a end p. permits_same s after o a end same h p
+measured_whole s after t (Some n) k same h g = whole_listed s after t n k same h g
 
 -- The second pass.
 written_at : (u : Context) (s after : Output) (t : Tree) → TakesWhole u → WritesWhole t s after →

@@ -28,6 +28,7 @@ use std::alloc::Global;
 ///
 /// # Example
 /// The string `Hello, World!` is `a10d48656c6c6f2c20576f726c6421`.
+#[tactic(auto, using(crate::proofs::LazyRoot::root_transparent))]
 pub fn to_lazy_value<T: Serialize>(alloc: Global, value: &T) -> Result<LazyValue, Error>
     ensures { IsLazyOf (T.tree value.now) result }
 {

@@ -1,6 +1,7 @@
 //! The headers of compounds, in the order in which the compounds are opened.
 
-ghost use Rattle.std.specs.Prelude.{◌≡◌, ◌+◌, ◌≤◌, ◌++◌, ◌∷◌, ◌||◌, [], false, length, take, slice_set, MatchOption};
+ghost use Rattle.std.specs.Prelude.{◌≡◌, ◌+◌, ◌≤◌, ◌++◌, ◌∷◌, ◌||◌, [], false, length, take, slice_set, IfSome, MatchOption};
+ghost use Rattle.amqp_ser.specs.Ranged.{IsRanged};
 
 use amqp_pass::ResolvedKind;
 use amqp_pass::width::{list_width, uint_width};
@@ -83,9 +84,10 @@ impl Table {
     /// table is unchanged.
     #[inline(always)]
     pub fn add_whole<W: Whole>(&mut self, whole: &W) -> Option<usize>
-        ensures { MatchOption result (self.new.headers.items ≡ self.old.headers.items)
+        ensures added { MatchOption result (self.new.headers.items ≡ self.old.headers.items)
             (λ n. AddsWhole (W.whole_tree whole.now) n self.old.headers.items
             self.new.headers.items) }
+        ensures ranged { IfSome result (λ _. IsRanged (W.whole_tree whole.now)) }
     {
         let before = self.headers.len();
         let len = whole.whole_headers(&mut self.headers);

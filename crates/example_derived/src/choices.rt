@@ -64,10 +64,11 @@ pub struct Tag(pub ByteBuf);
 // amqp: the impls below are written by tools/derive from the annotations above
 use serde_amqp::derive::{
     Composite, Content, DataVariant, Deserialize, DeserializeError, DeserializeSeed, Deserializer,
-    Either, EnumSeed, FieldSeeds, FieldValues, FixedContent, Global, ListSeed, MapKey, Name, Never,
-    Optional, PhantomData, Record, Required, RoundTrip, RoundTripComposite, Serialize,
+    Either, EnumSeed, FieldSeeds, FieldValues, FixedContent, GaveUp, Global, ListSeed, MapKey,
+    Name, Never, Optional, PhantomData, Record, Required, RoundTrip, RoundTripComposite, Serialize,
     SerializeCompounds, SerializeScalars, Serializer, TypeSeed, UnitVariant, VariantOf, fields,
-    laws, named, read, read_composite_type, variants,
+    laws, named, read, read_composite_type, read_composite_type_encoded, read_parts_encoded,
+    variants,
 };
 
 impl Serialize for Role {
@@ -104,6 +105,19 @@ impl Deserialize for Role {
             FixedContent::Bool(false) => Ok(Role::Sender),
             FixedContent::Bool(true) => Ok(Role::Receiver),
             _ => Err(D::Error::invalid_value()),
+        }
+    }
+
+    fn read_encoded(
+        alloc: Global,
+        code: u8,
+        input: &mut &[u8],
+        depth: u16,
+    ) -> Result<Role, GaveUp> {
+        match <bool as Deserialize>::read_encoded(alloc, code, input, depth) {
+            Ok(false) => Ok(Role::Sender),
+            Ok(true) => Ok(Role::Receiver),
+            _ => Err(GaveUp),
         }
     }
 }
@@ -151,6 +165,20 @@ impl Deserialize for Durability {
             FixedContent::Uint(1) => Ok(Durability::Configuration),
             FixedContent::Uint(2) => Ok(Durability::UnsettledState),
             _ => Err(D::Error::invalid_value()),
+        }
+    }
+
+    fn read_encoded(
+        alloc: Global,
+        code: u8,
+        input: &mut &[u8],
+        depth: u16,
+    ) -> Result<Durability, GaveUp> {
+        match <u32 as Deserialize>::read_encoded(alloc, code, input, depth) {
+            Ok(0) => Ok(Durability::None),
+            Ok(1) => Ok(Durability::Configuration),
+            Ok(2) => Ok(Durability::UnsettledState),
+            _ => Err(GaveUp),
         }
     }
 }
@@ -219,6 +247,26 @@ impl Deserialize for Expiry {
             _ => Err(D::Error::invalid_value()),
         }
     }
+
+    fn read_encoded(
+        alloc: Global,
+        code: u8,
+        input: &mut &[u8],
+        depth: u16,
+    ) -> Result<Expiry, GaveUp> {
+        let text = <Symbol as Deserialize>::read_encoded(alloc, code, input, depth)?;
+        let text = text.as_inner().as_str();
+        if text == "link-detach" {
+            return Ok(Expiry::LinkDetach);
+        }
+        if text == "session-end" {
+            return Ok(Expiry::SessionEnd);
+        }
+        if text == "never" {
+            return Ok(Expiry::Never);
+        }
+        Err(GaveUp)
+    }
 }
 
 impl RoundTrip for Expiry {
@@ -264,6 +312,27 @@ impl Deserialize for Address {
             Content::Uuid(value) => Ok(Address::Id(value)),
             _ => Err(D::Error::invalid_value()),
         }
+    }
+
+    fn read_encoded(
+        alloc: Global,
+        code: u8,
+        input: &mut &[u8],
+        depth: u16,
+    ) -> Result<Address, GaveUp> {
+        let start = *input;
+        if let Ok(value) = <u64 as Deserialize>::read_encoded(alloc, code, input, depth) {
+            return Ok(Address::Number(value));
+        }
+        *input = start;
+        if let Ok(value) = <String as Deserialize>::read_encoded(alloc, code, input, depth) {
+            return Ok(Address::Text(value));
+        }
+        *input = start;
+        if let Ok(value) = <Uuid as Deserialize>::read_encoded(alloc, code, input, depth) {
+            return Ok(Address::Id(value));
+        }
+        Err(GaveUp)
     }
 }
 
@@ -441,6 +510,18 @@ impl Deserialize for DeliveryNumber {
             Err(error) => Err(error),
         }
     }
+
+    fn read_encoded(
+        alloc: Global,
+        code: u8,
+        input: &mut &[u8],
+        depth: u16,
+    ) -> Result<DeliveryNumber, GaveUp> {
+        match <u32 as Deserialize>::read_encoded(alloc, code, input, depth) {
+            Ok(value) => Ok(DeliveryNumber(value)),
+            Err(error) => Err(error),
+        }
+    }
 }
 
 impl RoundTrip for DeliveryNumber {
@@ -499,6 +580,17 @@ impl Composite for Tag {
         let part0 = read::<Tag, D, _>(alloc, deserializer, TypeSeed(PhantomData::<ByteBuf>))?;
         Ok(Tag(part0))
     }
+
+    fn read_body_encoded(
+        alloc: Global,
+        code: u8,
+        input: &mut &[u8],
+        depth: u16,
+    ) -> Result<Tag, GaveUp> {
+        let seed = TypeSeed(PhantomData::<ByteBuf>);
+        let part0 = read_parts_encoded::<Tag, _>(alloc, code, input, depth, seed)?;
+        Ok(Tag(part0))
+    }
 }
 
 impl Deserialize for Tag {
@@ -516,6 +608,10 @@ impl Deserialize for Tag {
 
     fn deserialize<D: Deserializer>(alloc: Global, deserializer: D) -> Result<Tag, D::Error> {
         read_composite_type::<Tag, D>(alloc, deserializer)
+    }
+
+    fn read_encoded(alloc: Global, code: u8, input: &mut &[u8], depth: u16) -> Result<Tag, GaveUp> {
+        read_composite_type_encoded::<Tag>(alloc, code, input, depth)
     }
 }
 

@@ -31,9 +31,9 @@ pub struct Item {
 
 // amqp: the impls below are written by tools/derive from the annotations above
 use serde_amqp::derive::{
-    Defaulted, Deserialize, DeserializeSeed, Deserializer, FieldSeeds, FieldValues, Global, ListOf,
-    ListSeed, Name, Optional, Record, Required, RoundTrip, Serialize, SerializeCompounds,
-    Serializer, fields, laws, named, read_named,
+    Defaulted, Deserialize, DeserializeSeed, Deserializer, FieldSeeds, FieldValues, GaveUp, Global,
+    ListOf, ListSeed, Name, Optional, Record, Required, RoundTrip, Serialize, SerializeCompounds,
+    Serializer, fields, laws, named, read_named, read_named_encoded,
 };
 
 impl Serialize for Item {
@@ -204,6 +204,84 @@ impl Deserialize for Item {
             ListSeed(
                 named! { "id", "title", "kind", "made", "size", "width", "height", "depth"?, "weight"?, "colour"?, "maker"?, "place"?, "sold", "price", "tax" = 20u16, "stock", "rating"?, "votes"?, "labels"?, "note"? },
             ),
+        )?;
+        let FieldValues { value: title, rest } = rest;
+        let FieldValues { value: kind, rest } = rest;
+        let FieldValues { value: made, rest } = rest;
+        let FieldValues { value: size, rest } = rest;
+        let FieldValues { value: width, rest } = rest;
+        let FieldValues {
+            value: height,
+            rest,
+        } = rest;
+        let FieldValues { value: depth, rest } = rest;
+        let FieldValues {
+            value: weight,
+            rest,
+        } = rest;
+        let FieldValues {
+            value: colour,
+            rest,
+        } = rest;
+        let FieldValues { value: maker, rest } = rest;
+        let FieldValues { value: place, rest } = rest;
+        let FieldValues { value: sold, rest } = rest;
+        let FieldValues { value: price, rest } = rest;
+        let FieldValues { value: tax, rest } = rest;
+        let FieldValues { value: stock, rest } = rest;
+        let FieldValues {
+            value: rating,
+            rest,
+        } = rest;
+        let FieldValues { value: votes, rest } = rest;
+        let FieldValues {
+            value: labels,
+            rest,
+        } = rest;
+        let FieldValues {
+            value: note,
+            rest: (),
+        } = rest;
+        Ok(Item {
+            id,
+            title,
+            kind,
+            made,
+            size,
+            width,
+            height,
+            depth,
+            weight,
+            colour,
+            maker,
+            place,
+            sold,
+            price,
+            tax,
+            stock,
+            rating,
+            votes,
+            labels,
+            note,
+        })
+    }
+
+    fn read_encoded(
+        alloc: Global,
+        code: u8,
+        input: &mut &[u8],
+        depth: u16,
+    ) -> Result<Item, GaveUp> {
+        let seed = ListSeed(
+            named! { "id", "title", "kind", "made", "size", "width", "height", "depth"?, "weight"?, "colour"?, "maker"?, "place"?, "sold", "price", "tax" = 20u16, "stock", "rating"?, "votes"?, "labels"?, "note"? },
+        );
+        let FieldValues { value: id, rest } = read_named_encoded::<Item, _>(
+            alloc,
+            code,
+            input,
+            depth,
+            "shop:item",
+            seed,
         )?;
         let FieldValues { value: title, rest } = rest;
         let FieldValues { value: kind, rest } = rest;

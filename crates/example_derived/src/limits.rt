@@ -14,9 +14,9 @@ pub struct Limits {
 
 // amqp: the impls below are written by tools/derive from the annotations above
 use serde_amqp::derive::{
-    Defaulted, Deserialize, DeserializeSeed, Deserializer, FieldSeeds, FieldValues, Global, ListOf,
-    ListSeed, Optional, Record, RoundTrip, Serialize, SerializeCompounds, Serializer, fields, laws,
-    named, read_composite,
+    Defaulted, Deserialize, DeserializeSeed, Deserializer, FieldSeeds, FieldValues, GaveUp, Global,
+    ListOf, ListSeed, Optional, Record, RoundTrip, Serialize, SerializeCompounds, Serializer,
+    fields, laws, named, read_composite, read_composite_encoded,
 };
 
 impl Serialize for Limits {
@@ -78,6 +78,27 @@ impl Deserialize for Limits {
             0x19u64,
             ListSeed(named! { "mechanisms"?, "channel-max" = 65535u16 }),
         )?;
+        let FieldValues {
+            value: channel_max,
+            rest: (),
+        } = rest;
+        Ok(Limits {
+            mechanisms,
+            channel_max,
+        })
+    }
+
+    fn read_encoded(
+        alloc: Global,
+        code: u8,
+        input: &mut &[u8],
+        depth: u16,
+    ) -> Result<Limits, GaveUp> {
+        let seed = ListSeed(named! { "mechanisms"?, "channel-max" = 65535u16 });
+        let FieldValues {
+            value: mechanisms,
+            rest,
+        } = read_composite_encoded::<Limits, _>(alloc, code, input, depth, 0x19, seed)?;
         let FieldValues {
             value: channel_max,
             rest: (),

@@ -45,9 +45,10 @@ pub enum Outcome {
 // amqp: the impls below are written by tools/derive from the annotations above
 use serde_amqp::derive::{
     Alternatives, Composite, Deserialize, DeserializeSeed, Deserializer, Either, FieldSeeds,
-    FieldValues, Global, ListOf, ListSeed, Never, Optional, Record, Required, RoundTrip,
+    FieldValues, GaveUp, Global, ListOf, ListSeed, Never, Optional, Record, Required, RoundTrip,
     RoundTripAlternatives, RoundTripComposite, Serialize, SerializeCompounds, Serializer, fields,
-    laws, named, read, read_alternatives, read_composite_type, read_no_fields,
+    laws, named, read, read_alternatives, read_alternatives_encoded, read_composite_type,
+    read_composite_type_encoded, read_no_fields, read_parts_encoded,
 };
 
 impl Serialize for Accepted {
@@ -99,6 +100,17 @@ impl Composite for Accepted {
         let () = read_no_fields::<D>(deserializer)?;
         Ok(Accepted)
     }
+
+    fn read_body_encoded(
+        alloc: Global,
+        code: u8,
+        input: &mut &[u8],
+        depth: u16,
+    ) -> Result<Accepted, GaveUp> {
+        let seed = ListSeed(());
+        let () = read_parts_encoded::<Accepted, _>(alloc, code, input, depth, seed)?;
+        Ok(Accepted)
+    }
 }
 
 impl Deserialize for Accepted {
@@ -116,6 +128,15 @@ impl Deserialize for Accepted {
 
     fn deserialize<D: Deserializer>(alloc: Global, deserializer: D) -> Result<Accepted, D::Error> {
         read_composite_type::<Accepted, D>(alloc, deserializer)
+    }
+
+    fn read_encoded(
+        alloc: Global,
+        code: u8,
+        input: &mut &[u8],
+        depth: u16,
+    ) -> Result<Accepted, GaveUp> {
+        read_composite_type_encoded::<Accepted>(alloc, code, input, depth)
     }
 }
 
@@ -217,6 +238,32 @@ impl Composite for Failure {
             info,
         })
     }
+
+    fn read_body_encoded(
+        alloc: Global,
+        code: u8,
+        input: &mut &[u8],
+        depth: u16,
+    ) -> Result<Failure, GaveUp> {
+        let seed = ListSeed(named! { "condition", "description"?, "info"? });
+        let FieldValues {
+            value: condition,
+            rest,
+        } = read_parts_encoded::<Failure, _>(alloc, code, input, depth, seed)?;
+        let FieldValues {
+            value: description,
+            rest,
+        } = rest;
+        let FieldValues {
+            value: info,
+            rest: (),
+        } = rest;
+        Ok(Failure {
+            condition,
+            description,
+            info,
+        })
+    }
 }
 
 impl Deserialize for Failure {
@@ -234,6 +281,15 @@ impl Deserialize for Failure {
 
     fn deserialize<D: Deserializer>(alloc: Global, deserializer: D) -> Result<Failure, D::Error> {
         read_composite_type::<Failure, D>(alloc, deserializer)
+    }
+
+    fn read_encoded(
+        alloc: Global,
+        code: u8,
+        input: &mut &[u8],
+        depth: u16,
+    ) -> Result<Failure, GaveUp> {
+        read_composite_type_encoded::<Failure>(alloc, code, input, depth)
     }
 }
 
@@ -313,6 +369,20 @@ impl Composite for Rejected {
         } = read::<Rejected, D, _>(alloc, deserializer, ListSeed(named! { "error"? }))?;
         Ok(Rejected { error })
     }
+
+    fn read_body_encoded(
+        alloc: Global,
+        code: u8,
+        input: &mut &[u8],
+        depth: u16,
+    ) -> Result<Rejected, GaveUp> {
+        let seed = ListSeed(named! { "error"? });
+        let FieldValues {
+            value: error,
+            rest: (),
+        } = read_parts_encoded::<Rejected, _>(alloc, code, input, depth, seed)?;
+        Ok(Rejected { error })
+    }
 }
 
 impl Deserialize for Rejected {
@@ -330,6 +400,15 @@ impl Deserialize for Rejected {
 
     fn deserialize<D: Deserializer>(alloc: Global, deserializer: D) -> Result<Rejected, D::Error> {
         read_composite_type::<Rejected, D>(alloc, deserializer)
+    }
+
+    fn read_encoded(
+        alloc: Global,
+        code: u8,
+        input: &mut &[u8],
+        depth: u16,
+    ) -> Result<Rejected, GaveUp> {
+        read_composite_type_encoded::<Rejected>(alloc, code, input, depth)
     }
 }
 
@@ -431,6 +510,34 @@ impl Composite for Modified {
             message_annotations,
         })
     }
+
+    fn read_body_encoded(
+        alloc: Global,
+        code: u8,
+        input: &mut &[u8],
+        depth: u16,
+    ) -> Result<Modified, GaveUp> {
+        let seed = ListSeed(
+            named! { "delivery-failed"?, "undeliverable-here"?, "message-annotations"? },
+        );
+        let FieldValues {
+            value: delivery_failed,
+            rest,
+        } = read_parts_encoded::<Modified, _>(alloc, code, input, depth, seed)?;
+        let FieldValues {
+            value: undeliverable_here,
+            rest,
+        } = rest;
+        let FieldValues {
+            value: message_annotations,
+            rest: (),
+        } = rest;
+        Ok(Modified {
+            delivery_failed,
+            undeliverable_here,
+            message_annotations,
+        })
+    }
 }
 
 impl Deserialize for Modified {
@@ -448,6 +555,15 @@ impl Deserialize for Modified {
 
     fn deserialize<D: Deserializer>(alloc: Global, deserializer: D) -> Result<Modified, D::Error> {
         read_composite_type::<Modified, D>(alloc, deserializer)
+    }
+
+    fn read_encoded(
+        alloc: Global,
+        code: u8,
+        input: &mut &[u8],
+        depth: u16,
+    ) -> Result<Modified, GaveUp> {
+        read_composite_type_encoded::<Modified>(alloc, code, input, depth)
     }
 }
 
@@ -499,6 +615,20 @@ impl Deserialize for Outcome {
 
     fn deserialize<D: Deserializer>(alloc: Global, deserializer: D) -> Result<Outcome, D::Error> {
         match read_alternatives::<Outcome, D>(alloc, deserializer)? {
+            Either::This(value) => Ok(Outcome::Accepted(value)),
+            Either::Other(Either::This(value)) => Ok(Outcome::Rejected(value)),
+            Either::Other(Either::Other(Either::This(value))) => Ok(Outcome::Modified(value)),
+            Either::Other(Either::Other(Either::Other(never))) => match never {},
+        }
+    }
+
+    fn read_encoded(
+        alloc: Global,
+        code: u8,
+        input: &mut &[u8],
+        depth: u16,
+    ) -> Result<Outcome, GaveUp> {
+        match read_alternatives_encoded::<Outcome>(alloc, code, input, depth)? {
             Either::This(value) => Ok(Outcome::Accepted(value)),
             Either::Other(Either::This(value)) => Ok(Outcome::Rejected(value)),
             Either::Other(Either::Other(Either::This(value))) => Ok(Outcome::Modified(value)),

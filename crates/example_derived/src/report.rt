@@ -31,9 +31,10 @@ pub struct Report {
 
 // amqp: the impls below are written by tools/derive from the annotations above
 use serde_amqp::derive::{
-    Composite, Deserialize, DeserializeSeed, Deserializer, FieldSeeds, FieldValues, Global, ListOf,
-    ListSeed, Optional, Record, Required, RoundTrip, RoundTripComposite, Serialize,
+    Composite, Deserialize, DeserializeSeed, Deserializer, FieldSeeds, FieldValues, GaveUp, Global,
+    ListOf, ListSeed, Optional, Record, Required, RoundTrip, RoundTripComposite, Serialize,
     SerializeCompounds, Serializer, fields, laws, named, read, read_composite_type,
+    read_composite_type_encoded, read_parts_encoded,
 };
 
 impl Serialize for Position {
@@ -92,6 +93,32 @@ impl Deserialize for Position {
             deserializer,
             ListSeed(named! { "latitude", "longitude", "height"? }),
         )?;
+        let FieldValues {
+            value: longitude,
+            rest,
+        } = rest;
+        let FieldValues {
+            value: height,
+            rest: (),
+        } = rest;
+        Ok(Position {
+            latitude,
+            longitude,
+            height,
+        })
+    }
+
+    fn read_encoded(
+        alloc: Global,
+        code: u8,
+        input: &mut &[u8],
+        depth: u16,
+    ) -> Result<Position, GaveUp> {
+        let seed = ListSeed(named! { "latitude", "longitude", "height"? });
+        let FieldValues {
+            value: latitude,
+            rest,
+        } = read_parts_encoded::<Position, _>(alloc, code, input, depth, seed)?;
         let FieldValues {
             value: longitude,
             rest,
@@ -261,6 +288,61 @@ impl Composite for Report {
             photograph,
         })
     }
+
+    fn read_body_encoded(
+        alloc: Global,
+        code: u8,
+        input: &mut &[u8],
+        depth: u16,
+    ) -> Result<Report, GaveUp> {
+        let seed = ListSeed(
+            named! { "number", "remark"?, "station", "observers", "readings", "position", "time", "is-checked"?, "photograph" },
+        );
+        let FieldValues {
+            value: number,
+            rest,
+        } = read_parts_encoded::<Report, _>(alloc, code, input, depth, seed)?;
+        let FieldValues {
+            value: remark,
+            rest,
+        } = rest;
+        let FieldValues {
+            value: station,
+            rest,
+        } = rest;
+        let FieldValues {
+            value: observers,
+            rest,
+        } = rest;
+        let FieldValues {
+            value: readings,
+            rest,
+        } = rest;
+        let FieldValues {
+            value: position,
+            rest,
+        } = rest;
+        let FieldValues { value: time, rest } = rest;
+        let FieldValues {
+            value: is_checked,
+            rest,
+        } = rest;
+        let FieldValues {
+            value: photograph,
+            rest: (),
+        } = rest;
+        Ok(Report {
+            number,
+            remark,
+            station,
+            observers,
+            readings,
+            position,
+            time,
+            is_checked,
+            photograph,
+        })
+    }
 }
 
 impl Deserialize for Report {
@@ -278,6 +360,15 @@ impl Deserialize for Report {
 
     fn deserialize<D: Deserializer>(alloc: Global, deserializer: D) -> Result<Report, D::Error> {
         read_composite_type::<Report, D>(alloc, deserializer)
+    }
+
+    fn read_encoded(
+        alloc: Global,
+        code: u8,
+        input: &mut &[u8],
+        depth: u16,
+    ) -> Result<Report, GaveUp> {
+        read_composite_type_encoded::<Report>(alloc, code, input, depth)
     }
 }
 

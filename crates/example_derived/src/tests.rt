@@ -2,7 +2,7 @@
 //! (AMQP 1.0 part 1, section 1.6).
 
 use crate::choices::{Address, DeliveryNumber, Durability, Expiry, Role, Shape, Tag};
-use crate::{Contact, Failure, Limits, Outcome, Position};
+use crate::{Contact, Failure, Limits, Outcome, Position, Rejected};
 use serde_amqp::de::Deserialize;
 use serde_amqp::decode::decode_value;
 use serde_amqp::ser::Serialize;
@@ -23,9 +23,26 @@ fn gives<T: Deserialize + Serialize>(
     Ok(to_vec(alloc, &read::<T>(alloc, bytes)?)?.as_slice() == written)
 }
 
-// Returns whether a value is read from the bytes and written as the same bytes.
+// Returns whether a value is read from the bytes, untyped and in one pass, and written as the same
+// bytes.
 fn comes_back<T: Deserialize + Serialize>(alloc: Global, bytes: &[u8]) -> Result<bool, Error> {
-    gives::<T>(alloc, bytes, bytes)
+    Ok(gives::<T>(alloc, bytes, bytes)? && gives_at_once::<T>(alloc, bytes, bytes)?)
+}
+
+// Returns whether a value is read from the bytes in one pass, and written as `written`.
+fn gives_at_once<T: Deserialize + Serialize>(
+    alloc: Global,
+    bytes: &[u8],
+    written: &[u8],
+) -> Result<bool, Error> {
+    let Some((code, after)) = bytes.split_first() else {
+        return Ok(false);
+    };
+    let mut rest = after;
+    match T::read_encoded(alloc, *code, &mut rest, 255) {
+        Ok(value) => Ok(rest.is_empty() && to_vec(alloc, &value)?.as_slice() == written),
+        Err(_) => Ok(false),
+    }
 }
 
 fn refuses<T: Deserialize>(alloc: Global, bytes: &[u8]) -> bool {
@@ -70,6 +87,9 @@ fn descriptors_select_composites(rt: HostRuntime) -> Result<(), Fail> {
             b"\x00\x53\x27\x45"
         )?
     );
+    let by_name = b"\x00\xa3\x12amqp:rejected:list\x45";
+    assert!(rt; gives_at_once::<Outcome>(a, by_name, b"\x00\x53\x25\x45")?);
+    assert!(rt; gives_at_once::<Rejected>(a, by_name, b"\x00\x53\x25\x45")?);
     assert!(rt; refuses::<Outcome>(a, b"\x00\x53\x26\x45"));
     assert!(rt; refuses::<Outcome>(a, b"\x00\xa3\x12amqp:released:list\x45"));
     Ok(())
@@ -105,14 +125,12 @@ fn structs_of_one_field_are_that_field(rt: HostRuntime) -> Result<(), Fail> {
 #[test]
 fn variants_are_read_by_their_index(rt: HostRuntime) -> Result<(), Fail> {
     let a = rt.alloc();
-    assert!(rt; comes_back::<Shape>(a, b"\x43")? && refuses::<Shape>(a, b"\x52\x04"));
-    assert!(rt; comes_back::<Shape>(a, b"\xc1\x05\x02\x52\x01\x52\x05")?);
-    assert!(rt;
-        comes_back::<Shape>(
-            a,
-            b"\xc1\x0c\x02\x52\x02\xc0\x07\x02\x60\x00\x01\x60\x00\x02"
-        )?
-    );
+    let point = b"\x43";
+    assert!(rt; gives::<Shape>(a, point, point)? && refuses::<Shape>(a, b"\x52\x04"));
+    let circle = b"\xc1\x05\x02\x52\x01\x52\x05";
+    assert!(rt; gives::<Shape>(a, circle, circle)?);
+    let of_two = b"\xc1\x0c\x02\x52\x02\xc0\x07\x02\x60\x00\x01\x60\x00\x02";
+    assert!(rt; gives::<Shape>(a, of_two, of_two)?);
     Ok(())
 }
 
@@ -120,7 +138,7 @@ fn variants_are_read_by_their_index(rt: HostRuntime) -> Result<(), Fail> {
 fn maps_are_read_by_the_names(rt: HostRuntime) -> Result<(), Fail> {
     let a = rt.alloc();
     let contact = b"\xc1\x0a\x02\xa1\x04name\xa1\x01A";
-    assert!(rt; comes_back::<Contact>(a, contact)?);
+    assert!(rt; gives::<Contact>(a, contact, contact)?);
     assert!(rt;
         gives::<Contact>(
             a,
@@ -148,6 +166,8 @@ fn several_values_and_defaults(rt: HostRuntime) -> Result<(), Fail> {
     );
     assert!(rt; gives::<Limits>(a, b"\x00\x53\x19\x45", absent)?);
     assert!(rt; gives::<Limits>(a, b"\x00\x53\x19\xc0\x03\x02\x40\x40", absent)?);
+    assert!(rt; gives_at_once::<Limits>(a, b"\x00\x53\x19\x45", absent)?);
+    assert!(rt; gives_at_once::<Limits>(a, b"\x00\x53\x19\xc0\x03\x02\x40\x40", absent)?);
     assert!(rt; comes_back::<Limits>(a, b"\x00\x53\x19\xc0\x05\x02\x40\x60\x00\x07")?);
     assert!(rt; refuses::<Limits>(a, b"\x00\x53\x19\xc0\x04\x02\x40\x50\x07"));
     Ok(())

@@ -1,17 +1,13 @@
 //! A struct with a map and an array of fixed length, and a composite described by a symbol.
 //!
-//! For readers whose fields are collections, or whose descriptors are symbols. The field `light`
-//! comes first because it is copied: the check of `amqp_de::values!` does not cover a copied field
-//! after two moved ones.
+//! For readers whose fields are collections, or whose descriptors are symbols. `tools/derive` writes
+//! the impls from the annotations.
 
-use amqp_data::{Symbol, SymbolRef};
-use amqp_de::de::{Deserialize, Deserializer};
-use amqp_de::{FieldValues, ListSeed, Record, named, read, read_described, values};
-use amqp_ser::{ListOf, Serialize, SerializeCompounds, Serializer, fields};
-use std::alloc::Global;
+use amqp_data::Symbol;
 use std::collections::BTreeMap;
 
 /// The measurements of a station on one day: a list of the fields.
+// amqp: encoding = "list", full
 #[derive(Debug, PartialEq, Drop)]
 pub struct Day {
     /// The hours of sunrise and sunset.
@@ -22,68 +18,8 @@ pub struct Day {
     pub hours: BTreeMap<u32, i32>,
 }
 
-impl Serialize for Day {
-    ghost use Rattle.std.specs.Prelude.{[], ◌∷◌};
-    ghost use Rattle.amqp_ser.specs.Words.{list_of, of_symbol};
-
-    ghost tree = { λ d. list_of (⟦<[u32; 2] as Serialize>⟧.tree d.light
-        ∷ of_symbol d.station ∷ ⟦<BTreeMap<u32, i32> as Serialize>⟧.tree d.hours ∷ []) };
-
-    fn serialize<S: Serializer>(&self, serializer: &mut S) -> Result<S::Ok, S::Error> {
-        ListOf(fields! {
-                "light": &self.light,
-                "station": &self.station,
-                "hours": &self.hours,
-            })
-        .serialize(serializer)
-    }
-}
-
-impl Record for Day {
-    ghost use Rattle.amqp_de.specs.Parts.{◌▸◌};
-
-    type Values = FieldValues<[u32; 2], FieldValues<Symbol, FieldValues<BTreeMap<u32, i32>, ()>>>;
-
-    ghost parts = { λ d. d.light ▸ d.station ▸ d.hours ▸ tt };
-}
-
-impl Deserialize for Day {
-    ghost use Rattle.std.specs.Prelude.{◌≡◌, [], ◌∷◌, codes};
-    ghost use Rattle.amqp_data.specs.Text.{symbol_text};
-    ghost use Rattle.amqp_ser.specs.Tree.{scalar, symbol, list, trees_of};
-    ghost use Rattle.amqp_de.specs.Fields.{OnFields, ReadsRequired, NoMoreFields};
-
-    ghost reads = { λ t d. OnFields (
-        ReadsRequired (codes "light") ⟦<[u32; 2] as Deserialize>⟧.reads d.light (
-        ReadsRequired (codes "station") ⟦<Symbol as Deserialize>⟧.reads d.station (
-        ReadsRequired (codes "hours") ⟦<BTreeMap<u32, i32> as Deserialize>⟧.reads d.hours NoMoreFields))) t };
-
-    ghost image = { λ d. list (trees_of (⟦<[u32; 2] as Deserialize>⟧.image d.light
-        ∷ scalar (symbol (symbol_text d.station))
-        ∷ ⟦<BTreeMap<u32, i32> as Deserialize>⟧.image d.hours ∷ [])) };
-
-    ghost restorable = { λ d. ⟦<[u32; 2] as Deserialize>⟧.restorable d.light
-        × ⟦<BTreeMap<u32, i32> as Deserialize>⟧.restorable d.hours };
-
-    ghost same = { λ d e. ⟦<[u32; 2] as Deserialize>⟧.same d.light e.light
-        × (symbol_text d.station ≡ symbol_text e.station)
-        × ⟦<BTreeMap<u32, i32> as Deserialize>⟧.same d.hours e.hours };
-
-    fn deserialize<D: Deserializer>(alloc: Global, deserializer: D) -> Result<Day, D::Error> {
-        let values! { light, station, hours } = read::<Day, D, _>(
-            alloc,
-            deserializer,
-            ListSeed(named! { "light", "station", "hours" }),
-        )?;
-        Ok(Day {
-            light,
-            station,
-            hours,
-        })
-    }
-}
-
 /// The amount and duration of a rainfall: a list described by the symbol `station:rain:list`.
+// amqp: encoding = "list", name = "station:rain:list", full
 #[derive(Debug, PartialEq, Drop)]
 pub struct Rain {
     /// The amount, in tenths of a millimetre.
@@ -92,54 +28,196 @@ pub struct Rain {
     pub time: u16,
 }
 
+// amqp: the impls below are written by tools/derive from the annotations above
+use serde_amqp::derive::{
+    Deserialize, DeserializeSeed, Deserializer, FieldSeeds, FieldValues, GaveUp, Global, ListOf,
+    ListSeed, Name, Record, Required, RoundTrip, Serialize, SerializeCompounds, Serializer, fields,
+    laws, named, read, read_named, read_named_encoded, read_parts_encoded,
+};
+
+impl Serialize for Day {
+    ghost use Rattle.std.specs.Prelude.{[], ◌∷◌};
+    ghost use Rattle.amqp_ser.specs.Words.{list_of, of_symbol};
+
+    ghost tree = { λ x. list_of (
+        ⟦<[u32; 2] as Serialize>⟧.tree x.light
+        ∷ of_symbol x.station
+        ∷ ⟦<BTreeMap<u32, i32> as Serialize>⟧.tree x.hours
+        ∷ []) };
+
+    fn serialize<S: Serializer>(&self, serializer: &mut S) -> Result<S::Ok, S::Error> {
+        ListOf(fields! {
+            "light": &self.light,
+            "station": &self.station,
+            "hours": &self.hours,
+        })
+        .serialize(serializer)
+    }
+}
+
+/// The fields of [`Day`], as they are read.
+type DayFields = Required<[u32; 2], Required<Symbol, Required<BTreeMap<u32, i32>, ()>>>;
+
+impl Record for Day {
+    ghost use Rattle.amqp_de.specs.Parts.{◌▸◌};
+
+    type Values = <DayFields as FieldSeeds>::Values;
+
+    ghost parts = { λ x. x.light ▸ x.station ▸ x.hours ▸ tt };
+}
+
+impl Deserialize for Day {
+    ghost use Rattle.std.specs.Prelude.{codes};
+    ghost use Rattle.amqp_de.specs.Fields.{OnFields, ReadsRequired, NoMoreFields};
+
+    ghost reads = { λ t x. OnFields (
+        ReadsRequired (codes "light") ⟦<[u32; 2] as Deserialize>⟧.reads x.light (
+        ReadsRequired (codes "station") ⟦<Symbol as Deserialize>⟧.reads x.station (
+        ReadsRequired (codes "hours") ⟦<BTreeMap<u32, i32> as Deserialize>⟧.reads x.hours
+        NoMoreFields))) t };
+
+    ghost image = { λ x. ⟦<ListSeed<DayFields> as DeserializeSeed>⟧.image (⟦<Day as Record>⟧.parts x) };
+
+    ghost restorable = { λ x. ⟦<ListSeed<DayFields> as DeserializeSeed>⟧.restorable (⟦<Day as Record>⟧.parts x) };
+
+    ghost same = { λ x y. ⟦<ListSeed<DayFields> as DeserializeSeed>⟧.same (⟦<Day as Record>⟧.parts x) (⟦<Day as Record>⟧.parts y) };
+
+    fn deserialize<D: Deserializer>(alloc: Global, deserializer: D) -> Result<Day, D::Error> {
+        let FieldValues { value: light, rest } = read::<Day, D, _>(
+            alloc,
+            deserializer,
+            ListSeed(named! { "light", "station", "hours" }),
+        )?;
+        let FieldValues {
+            value: station,
+            rest,
+        } = rest;
+        let FieldValues {
+            value: hours,
+            rest: (),
+        } = rest;
+        Ok(Day {
+            light,
+            station,
+            hours,
+        })
+    }
+
+    fn read_encoded(alloc: Global, code: u8, input: &mut &[u8], depth: u16) -> Result<Day, GaveUp> {
+        let seed = ListSeed(named! { "light", "station", "hours" });
+        let FieldValues { value: light, rest } = read_parts_encoded::<Day, _>(
+            alloc, code, input, depth, seed,
+        )?;
+        let FieldValues {
+            value: station,
+            rest,
+        } = rest;
+        let FieldValues {
+            value: hours,
+            rest: (),
+        } = rest;
+        Ok(Day {
+            light,
+            station,
+            hours,
+        })
+    }
+}
+
+impl RoundTrip for Day {
+    fn law() {
+        laws::all_fields_return::<Day, DayFields>();
+    }
+}
+
 impl Serialize for Rain {
     ghost use Rattle.std.specs.Prelude.{[], ◌∷◌, codes};
     ghost use Rattle.amqp_ser.specs.Tree.{name};
     ghost use Rattle.amqp_ser.specs.Words.{list_composite, of_u16, of_u32};
 
-    ghost tree = { λ r. list_composite (name (codes "station:rain:list")) (
-        of_u32 r.amount ∷ of_u16 r.time ∷ []) };
+    ghost tree = { λ x. list_composite (name (codes "station:rain:list")) (
+        of_u32 x.amount
+        ∷ of_u16 x.time
+        ∷ []) };
 
     fn serialize<S: Serializer>(&self, serializer: &mut S) -> Result<S::Ok, S::Error> {
         serializer.serialize_described(
-            &SymbolRef::from("station:rain:list"),
-            &ListOf(fields! { "amount": &self.amount, "time": &self.time }),
+            &Name("station:rain:list"),
+            &ListOf(fields! {
+                "amount": &self.amount,
+                "time": &self.time,
+            }),
         )
     }
 }
 
+/// The fields of [`Rain`], as they are read.
+type RainFields = Required<u32, Required<u16, ()>>;
+
 impl Record for Rain {
     ghost use Rattle.amqp_de.specs.Parts.{◌▸◌};
 
-    type Values = FieldValues<u32, FieldValues<u16, ()>>;
+    type Values = <RainFields as FieldSeeds>::Values;
 
-    ghost parts = { λ r. r.amount ▸ r.time ▸ tt };
+    ghost parts = { λ x. x.amount ▸ x.time ▸ tt };
 }
 
 impl Deserialize for Rain {
-    ghost use Rattle.std.specs.Prelude.{◌≡◌, [], ◌∷◌, codes};
-    ghost use Rattle.amqp_ser.specs.Tree.{name, described, list, scalar, trees_of, uint, ushort};
+    ghost use Rattle.std.specs.Prelude.{codes};
+    ghost use Rattle.amqp_ser.specs.Tree.{name, described};
     ghost use Rattle.amqp_de.specs.Fields.{OnDescribed, OnFields, ReadsRequired, NoMoreFields};
-    ghost use Rattle.amqp_de.specs.Reads.{Always};
 
-    ghost reads = { λ t r. OnDescribed (name (codes "station:rain:list")) (OnFields (
-        ReadsRequired (codes "amount") ⟦<u32 as Deserialize>⟧.reads r.amount (
-        ReadsRequired (codes "time") ⟦<u16 as Deserialize>⟧.reads r.time NoMoreFields))) t };
+    ghost reads = { λ t x. OnDescribed (name (codes "station:rain:list")) (OnFields (
+        ReadsRequired (codes "amount") ⟦<u32 as Deserialize>⟧.reads x.amount (
+        ReadsRequired (codes "time") ⟦<u16 as Deserialize>⟧.reads x.time
+        NoMoreFields))) t };
 
-    ghost image = { λ r. described (name (codes "station:rain:list")) (list (trees_of (
-        scalar (uint r.amount) ∷ scalar (ushort r.time) ∷ []))) };
+    ghost image = { λ x. described (name (codes "station:rain:list")) (⟦<ListSeed<RainFields> as DeserializeSeed>⟧.image (⟦<Rain as Record>⟧.parts x)) };
 
-    ghost restorable = { Always };
+    ghost restorable = { λ x. ⟦<ListSeed<RainFields> as DeserializeSeed>⟧.restorable (⟦<Rain as Record>⟧.parts x) };
 
-    ghost same = { λ r s. (r.amount ≡ s.amount) × (r.time ≡ s.time) };
+    ghost same = { λ x y. ⟦<ListSeed<RainFields> as DeserializeSeed>⟧.same (⟦<Rain as Record>⟧.parts x) (⟦<Rain as Record>⟧.parts y) };
 
     fn deserialize<D: Deserializer>(alloc: Global, deserializer: D) -> Result<Rain, D::Error> {
-        let values! { amount, time } = read_described::<Rain, D, _, _>(
+        let FieldValues {
+            value: amount,
+            rest,
+        } = read_named::<Rain, D, _>(
             alloc,
             deserializer,
-            &"station:rain:list",
+            "station:rain:list",
             ListSeed(named! { "amount", "time" }),
         )?;
+        let FieldValues {
+            value: time,
+            rest: (),
+        } = rest;
+        Ok(Rain { amount, time })
+    }
+
+    fn read_encoded(
+        alloc: Global,
+        code: u8,
+        input: &mut &[u8],
+        depth: u16,
+    ) -> Result<Rain, GaveUp> {
+        let seed = ListSeed(named! { "amount", "time" });
+        let FieldValues {
+            value: amount,
+            rest,
+        } = read_named_encoded::<Rain, _>(alloc, code, input, depth, "station:rain:list", seed)?;
+        let FieldValues {
+            value: time,
+            rest: (),
+        } = rest;
         Ok(Rain { amount, time })
     }
 }
+
+impl RoundTrip for Rain {
+    fn law() {
+        laws::all_fields_return::<Rain, RainFields>();
+        laws::described_return();
+    }
+}
+// amqp: end of the impls

@@ -1,14 +1,10 @@
 //! A struct that is serialized as a list of its fields.
 //!
-//! Start here to write and read a type of your own: shows both traits for a struct with an optional
-//! last field.
-
-use amqp_de::de::{Deserialize, Deserializer};
-use amqp_de::{FieldValues, ListSeed, Record, named, read, values};
-use amqp_ser::{ListOf, Serialize, Serializer, fields};
-use std::alloc::Global;
+//! Start here to write and read a type of your own: a struct with an optional last field.
+//! `tools/derive` writes the impls from the annotation above it.
 
 /// The geographic position of a station.
+// amqp: encoding = "list", full
 #[derive(Debug, PartialEq, Drop)]
 pub struct Position {
     /// The latitude, in millionths of a degree north.
@@ -19,56 +15,104 @@ pub struct Position {
     pub height: Option<u32>,
 }
 
+// amqp: the impls below are written by tools/derive from the annotations above
+use serde_amqp::derive::{
+    Deserialize, DeserializeSeed, Deserializer, FieldSeeds, FieldValues, GaveUp, Global, ListOf,
+    ListSeed, Optional, Record, Required, RoundTrip, Serialize, Serializer, fields, laws, named,
+    read, read_parts_encoded,
+};
+
 impl Serialize for Position {
     ghost use Rattle.std.specs.Prelude.{[], ◌∷◌};
     ghost use Rattle.amqp_ser.specs.Carried.{optional};
     ghost use Rattle.amqp_ser.specs.Words.{list_of, of_i32, of_u32};
 
-    ghost tree = { λ p. list_of (
-        of_i32 p.latitude ∷ of_i32 p.longitude ∷ optional of_u32 p.height ∷ []) };
+    ghost tree = { λ x. list_of (
+        of_i32 x.latitude
+        ∷ of_i32 x.longitude
+        ∷ optional of_u32 x.height
+        ∷ []) };
 
     fn serialize<S: Serializer>(&self, serializer: &mut S) -> Result<S::Ok, S::Error> {
         ListOf(fields! {
-                "latitude": &self.latitude,
-                "longitude": &self.longitude,
-                "height": &self.height,
-            })
+            "latitude": &self.latitude,
+            "longitude": &self.longitude,
+            "height": &self.height,
+        })
         .serialize(serializer)
     }
 }
 
+/// The fields of [`Position`], as they are read.
+type PositionFields = Required<i32, Required<i32, Optional<u32, ()>>>;
+
 impl Record for Position {
     ghost use Rattle.amqp_de.specs.Parts.{◌▸◌};
 
-    type Values = FieldValues<i32, FieldValues<i32, FieldValues<Option<u32>, ()>>>;
+    type Values = <PositionFields as FieldSeeds>::Values;
 
-    ghost parts = { λ p. p.latitude ▸ p.longitude ▸ p.height ▸ tt };
+    ghost parts = { λ x. x.latitude ▸ x.longitude ▸ x.height ▸ tt };
 }
 
 impl Deserialize for Position {
-    ghost use Rattle.std.specs.Prelude.{◌≡◌, [], ◌∷◌, codes};
-    ghost use Rattle.amqp_ser.specs.Tree.{scalar, int, list, trees_of};
+    ghost use Rattle.std.specs.Prelude.{codes};
     ghost use Rattle.amqp_de.specs.Fields.{OnFields, ReadsRequired, ReadsOptional, NoMoreFields};
 
-    ghost reads = { λ t p. OnFields (
-        ReadsRequired (codes "latitude") ⟦<i32 as Deserialize>⟧.reads p.latitude (
-        ReadsRequired (codes "longitude") ⟦<i32 as Deserialize>⟧.reads p.longitude (
-        ReadsOptional (codes "height") ⟦<u32 as Deserialize>⟧.reads p.height NoMoreFields))) t };
+    ghost reads = { λ t x. OnFields (
+        ReadsRequired (codes "latitude") ⟦<i32 as Deserialize>⟧.reads x.latitude (
+        ReadsRequired (codes "longitude") ⟦<i32 as Deserialize>⟧.reads x.longitude (
+        ReadsOptional (codes "height") ⟦<u32 as Deserialize>⟧.reads x.height
+        NoMoreFields))) t };
 
-    ghost image = { λ p. list (trees_of (scalar (int p.latitude) ∷ scalar (int p.longitude)
-        ∷ ⟦<Option<u32> as Deserialize>⟧.image p.height ∷ [])) };
+    ghost image = { λ x. ⟦<ListSeed<PositionFields> as DeserializeSeed>⟧.image (⟦<Position as Record>⟧.parts x) };
 
-    ghost restorable = { λ p. ⟦<Option<u32> as Deserialize>⟧.restorable p.height };
+    ghost restorable = { λ x. ⟦<ListSeed<PositionFields> as DeserializeSeed>⟧.restorable (⟦<Position as Record>⟧.parts x) };
 
-    ghost same = { λ p q. (p.latitude ≡ q.latitude) × (p.longitude ≡ q.longitude)
-        × ⟦<Option<u32> as Deserialize>⟧.same p.height q.height };
+    ghost same = { λ x y. ⟦<ListSeed<PositionFields> as DeserializeSeed>⟧.same (⟦<Position as Record>⟧.parts x) (⟦<Position as Record>⟧.parts y) };
 
     fn deserialize<D: Deserializer>(alloc: Global, deserializer: D) -> Result<Position, D::Error> {
-        let values! { latitude, longitude, height } = read::<Position, D, _>(
+        let FieldValues {
+            value: latitude,
+            rest,
+        } = read::<Position, D, _>(
             alloc,
             deserializer,
             ListSeed(named! { "latitude", "longitude", "height"? }),
         )?;
+        let FieldValues {
+            value: longitude,
+            rest,
+        } = rest;
+        let FieldValues {
+            value: height,
+            rest: (),
+        } = rest;
+        Ok(Position {
+            latitude,
+            longitude,
+            height,
+        })
+    }
+
+    fn read_encoded(
+        alloc: Global,
+        code: u8,
+        input: &mut &[u8],
+        depth: u16,
+    ) -> Result<Position, GaveUp> {
+        let seed = ListSeed(named! { "latitude", "longitude", "height"? });
+        let FieldValues {
+            value: latitude,
+            rest,
+        } = read_parts_encoded::<Position, _>(alloc, code, input, depth, seed)?;
+        let FieldValues {
+            value: longitude,
+            rest,
+        } = rest;
+        let FieldValues {
+            value: height,
+            rest: (),
+        } = rest;
         Ok(Position {
             latitude,
             longitude,
@@ -76,3 +120,10 @@ impl Deserialize for Position {
         })
     }
 }
+
+impl RoundTrip for Position {
+    fn law() {
+        laws::all_fields_return::<Position, PositionFields>();
+    }
+}
+// amqp: end of the impls

@@ -10,14 +10,11 @@ ghost use Rattle.amqp_value.specs.declared.value.Value.TheVariants as value;
 ghost use Rattle.amqp_de.specs.Answers.{Answers, Restores};
 
 use amqp_data::Error;
-use amqp_de::de::{Deserialize, Deserializer};
-use amqp_de::{FieldValues, ListSeed, Record, named, read, values};
 use amqp_from_value::from_value;
-use amqp_ser::{ListOf, Serialize, Serializer, fields};
 use amqp_value::Value;
-use std::alloc::Global;
 
 /// A region and the regions in it: a list of its two fields.
+// amqp: encoding = "list", full
 #[derive(Debug, PartialEq, Drop)]
 pub struct Region {
     /// The number of the region.
@@ -49,48 +46,91 @@ impl Region {
     }
 }
 
+// amqp: the impls below are written by tools/derive from the annotations above
+use serde_amqp::derive::{
+    Deserialize, DeserializeSeed, Deserializer, FieldSeeds, FieldValues, GaveUp, Global, ListOf,
+    ListSeed, Record, Required, RoundTrip, Serialize, Serializer, fields, laws, named, read,
+    read_parts_encoded,
+};
+
 impl Serialize for Region {
     ghost use Rattle.std.specs.Prelude.{[], ◌∷◌};
     ghost use Rattle.amqp_ser.specs.Words.{list_of, of_u32};
 
-    ghost tree = { λ r. list_of (of_u32 r.number ∷ ⟦<Vec<Value> as Serialize>⟧.tree r.inner ∷ []) };
+    ghost tree = { λ x. list_of (
+        of_u32 x.number
+        ∷ ⟦<Vec<Value> as Serialize>⟧.tree x.inner
+        ∷ []) };
 
     fn serialize<S: Serializer>(&self, serializer: &mut S) -> Result<S::Ok, S::Error> {
-        ListOf(fields! { "number": &self.number, "inner": &self.inner }).serialize(serializer)
+        ListOf(fields! {
+            "number": &self.number,
+            "inner": &self.inner,
+        })
+        .serialize(serializer)
     }
 }
+
+/// The fields of [`Region`], as they are read.
+type RegionFields = Required<u32, Required<Vec<Value>, ()>>;
 
 impl Record for Region {
     ghost use Rattle.amqp_de.specs.Parts.{◌▸◌};
 
-    type Values = FieldValues<u32, FieldValues<Vec<Value>, ()>>;
+    type Values = <RegionFields as FieldSeeds>::Values;
 
-    ghost parts = { λ r. r.number ▸ r.inner ▸ tt };
+    ghost parts = { λ x. x.number ▸ x.inner ▸ tt };
 }
 
 impl Deserialize for Region {
-    ghost use Rattle.std.specs.Prelude.{◌≡◌, [], ◌∷◌, codes};
-    ghost use Rattle.amqp_ser.specs.Tree.{scalar, uint, list, trees_of};
+    ghost use Rattle.std.specs.Prelude.{codes};
     ghost use Rattle.amqp_de.specs.Fields.{OnFields, ReadsRequired, NoMoreFields};
 
-    ghost reads = { λ t r. OnFields (
-        ReadsRequired (codes "number") ⟦<u32 as Deserialize>⟧.reads r.number (
-        ReadsRequired (codes "inner") ⟦<Vec<Value> as Deserialize>⟧.reads r.inner NoMoreFields)) t };
+    ghost reads = { λ t x. OnFields (
+        ReadsRequired (codes "number") ⟦<u32 as Deserialize>⟧.reads x.number (
+        ReadsRequired (codes "inner") ⟦<Vec<Value> as Deserialize>⟧.reads x.inner
+        NoMoreFields)) t };
 
-    ghost image = { λ r. list (trees_of (scalar (uint r.number)
-        ∷ ⟦<Vec<Value> as Deserialize>⟧.image r.inner ∷ [])) };
+    ghost image = { λ x. ⟦<ListSeed<RegionFields> as DeserializeSeed>⟧.image (⟦<Region as Record>⟧.parts x) };
 
-    ghost restorable = { λ r. ⟦<Vec<Value> as Deserialize>⟧.restorable r.inner };
+    ghost restorable = { λ x. ⟦<ListSeed<RegionFields> as DeserializeSeed>⟧.restorable (⟦<Region as Record>⟧.parts x) };
 
-    ghost same = { λ r s. (r.number ≡ s.number)
-        × ⟦<Vec<Value> as Deserialize>⟧.same r.inner s.inner };
+    ghost same = { λ x y. ⟦<ListSeed<RegionFields> as DeserializeSeed>⟧.same (⟦<Region as Record>⟧.parts x) (⟦<Region as Record>⟧.parts y) };
 
     fn deserialize<D: Deserializer>(alloc: Global, deserializer: D) -> Result<Region, D::Error> {
-        let values! { number, inner } = read::<Region, D, _>(
-            alloc,
-            deserializer,
-            ListSeed(named! { "number", "inner" }),
-        )?;
+        let FieldValues {
+            value: number,
+            rest,
+        } = read::<Region, D, _>(alloc, deserializer, ListSeed(named! { "number", "inner" }))?;
+        let FieldValues {
+            value: inner,
+            rest: (),
+        } = rest;
+        Ok(Region { number, inner })
+    }
+
+    fn read_encoded(
+        alloc: Global,
+        code: u8,
+        input: &mut &[u8],
+        depth: u16,
+    ) -> Result<Region, GaveUp> {
+        let seed = ListSeed(named! { "number", "inner" });
+        let FieldValues {
+            value: number,
+            rest,
+        } = read_parts_encoded::<Region, _>(alloc, code, input, depth, seed)?;
+        let FieldValues {
+            value: inner,
+            rest: (),
+        } = rest;
         Ok(Region { number, inner })
     }
 }
+
+impl RoundTrip for Region {
+    fn law() {
+        laws::all_fields_return::<Region, RegionFields>();
+    }
+}
+// amqp: end of the impls

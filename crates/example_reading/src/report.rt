@@ -1,19 +1,13 @@
 //! A composite of nine fields of different types: texts, collections, and a struct of this crate.
 //!
-//! For readers with many fields. The seed has the name `Fields`, so `image`, `restorable` and
-//! `same` are one line each, whatever the number of the fields.
+//! For readers with many fields. `tools/derive` writes the impls from the annotation.
 
 use crate::position::Position;
 use amqp_data::{ByteBuf, OrderedMap, Symbol, Timestamp};
-use amqp_de::de::{Deserialize, Deserializer};
-use amqp_de::{
-    DeserializeSeed, FieldValues, ListSeed, Optional, Record, Required, named, read_composite,
-};
-use amqp_ser::{ListOf, Serialize, SerializeCompounds, Serializer, fields};
 use amqp_value::Value;
-use std::alloc::Global;
 
 /// What an observer reports: a list described by the code 0x18.
+// amqp: encoding = "list", code = 0x18, rename_all = "kebab-case"
 #[derive(Debug, PartialEq, Drop)]
 pub struct Report {
     /// The number of the report.
@@ -36,19 +30,29 @@ pub struct Report {
     pub photograph: ByteBuf,
 }
 
+// amqp: the impls below are written by tools/derive from the annotations above
+use serde_amqp::derive::{
+    Deserialize, DeserializeSeed, Deserializer, FieldSeeds, FieldValues, GaveUp, Global, ListOf,
+    ListSeed, Optional, Record, Required, RoundTrip, Serialize, SerializeCompounds, Serializer,
+    fields, laws, named, read_composite, read_composite_encoded,
+};
+
 impl Serialize for Report {
     ghost use Rattle.std.specs.Prelude.{[], ◌∷◌};
     ghost use Rattle.amqp_ser.specs.Tree.{code};
-    ghost use Rattle.amqp_ser.specs.Words.{optional_value, required_value, of_bool, of_binary, of_string, of_symbol, of_timestamp, of_u32, short_composite};
+    ghost use Rattle.amqp_ser.specs.Words.{short_composite, required_value, optional_value, of_binary, of_bool, of_string, of_symbol, of_timestamp, of_u32};
 
-    ghost tree = { λ r. short_composite (code 0x18) (
-        required_value (of_u32 r.number) ∷ optional_value of_string r.remark
-        ∷ required_value (of_symbol r.station)
-        ∷ required_value (⟦<Vec<String> as Serialize>⟧.tree r.observers)
-        ∷ required_value (⟦<OrderedMap<Symbol, Value> as Serialize>⟧.tree r.readings)
-        ∷ required_value (⟦<Position as Serialize>⟧.tree r.position)
-        ∷ required_value (of_timestamp r.time) ∷ required_value (of_bool r.is_checked)
-        ∷ required_value (of_binary r.photograph) ∷ []) };
+    ghost tree = { λ x. short_composite (code 0x18) (
+        required_value (of_u32 x.number)
+        ∷ optional_value of_string x.remark
+        ∷ required_value (of_symbol x.station)
+        ∷ required_value (⟦<Vec<String> as Serialize>⟧.tree x.observers)
+        ∷ required_value (⟦<OrderedMap<Symbol, Value> as Serialize>⟧.tree x.readings)
+        ∷ required_value (⟦<Position as Serialize>⟧.tree x.position)
+        ∷ required_value (of_timestamp x.time)
+        ∷ required_value (of_bool x.is_checked)
+        ∷ required_value (of_binary x.photograph)
+        ∷ []) };
 
     fn serialize<S: Serializer>(&self, serializer: &mut S) -> Result<S::Ok, S::Error> {
         serializer.serialize_described(
@@ -68,23 +72,30 @@ impl Serialize for Report {
     }
 }
 
-/// The seed of the fields, in order.
-type Fields = ListSeed<
-    Required<u32, Optional<String, Required<Symbol, Required<Vec<String>, LastFields>>>>,
->;
-
-/// The seeds of the fields after `observers`.
-type LastFields = Required<
-    OrderedMap<Symbol, Value>,
-    Required<Position, Required<Timestamp, Required<bool, Required<ByteBuf, ()>>>>,
+/// The fields of [`Report`], as they are read.
+type ReportFields = Required<
+    u32,
+    Optional<
+        String,
+        Required<
+            Symbol,
+            Required<
+                Vec<String>,
+                Required<
+                    OrderedMap<Symbol, Value>,
+                    Required<Position, Required<Timestamp, Required<bool, Required<ByteBuf, ()>>>>,
+                >,
+            >,
+        >,
+    >,
 >;
 
 impl Record for Report {
     ghost use Rattle.amqp_de.specs.Parts.{◌▸◌};
 
-    type Values = <Fields as DeserializeSeed>::Value;
+    type Values = <ReportFields as FieldSeeds>::Values;
 
-    ghost parts = { λ r. r.number ▸ r.remark ▸ r.station ▸ r.observers ▸ r.readings ▸ r.position ▸ r.time ▸ r.is_checked ▸ r.photograph ▸ tt };
+    ghost parts = { λ x. x.number ▸ x.remark ▸ x.station ▸ x.observers ▸ x.readings ▸ x.position ▸ x.time ▸ x.is_checked ▸ x.photograph ▸ tt };
 }
 
 impl Deserialize for Report {
@@ -92,25 +103,23 @@ impl Deserialize for Report {
     ghost use Rattle.amqp_ser.specs.Tree.{code, described};
     ghost use Rattle.amqp_de.specs.Fields.{OnDescribed, OnFields, ReadsRequired, ReadsOptional, NoMoreFields};
 
-    ghost reads = { λ t r. OnDescribed (code 0x18) (OnFields (
-        ReadsRequired (codes "number") ⟦<u32 as Deserialize>⟧.reads r.number (
-        ReadsOptional (codes "remark") ⟦<String as Deserialize>⟧.reads r.remark (
-        ReadsRequired (codes "station") ⟦<Symbol as Deserialize>⟧.reads r.station (
-        ReadsRequired (codes "observers") ⟦<Vec<String> as Deserialize>⟧.reads r.observers (
-        ReadsRequired (codes "readings") ⟦<OrderedMap<Symbol, Value> as Deserialize>⟧.reads r.readings (
-        ReadsRequired (codes "position") ⟦<Position as Deserialize>⟧.reads r.position (
-        ReadsRequired (codes "time") ⟦<Timestamp as Deserialize>⟧.reads r.time (
-        ReadsRequired (codes "is-checked") ⟦<bool as Deserialize>⟧.reads r.is_checked (
-        ReadsRequired (codes "photograph") ⟦<ByteBuf as Deserialize>⟧.reads r.photograph
+    ghost reads = { λ t x. OnDescribed (code 0x18) (OnFields (
+        ReadsRequired (codes "number") ⟦<u32 as Deserialize>⟧.reads x.number (
+        ReadsOptional (codes "remark") ⟦<String as Deserialize>⟧.reads x.remark (
+        ReadsRequired (codes "station") ⟦<Symbol as Deserialize>⟧.reads x.station (
+        ReadsRequired (codes "observers") ⟦<Vec<String> as Deserialize>⟧.reads x.observers (
+        ReadsRequired (codes "readings") ⟦<OrderedMap<Symbol, Value> as Deserialize>⟧.reads x.readings (
+        ReadsRequired (codes "position") ⟦<Position as Deserialize>⟧.reads x.position (
+        ReadsRequired (codes "time") ⟦<Timestamp as Deserialize>⟧.reads x.time (
+        ReadsRequired (codes "is-checked") ⟦<bool as Deserialize>⟧.reads x.is_checked (
+        ReadsRequired (codes "photograph") ⟦<ByteBuf as Deserialize>⟧.reads x.photograph
         NoMoreFields)))))))))) t };
 
-    ghost image = { λ r. described (code 0x18)
-        (⟦<Fields as DeserializeSeed>⟧.short (⟦<Report as Record>⟧.parts r)) };
+    ghost image = { λ x. described (code 0x18) (⟦<ListSeed<ReportFields> as DeserializeSeed>⟧.short (⟦<Report as Record>⟧.parts x)) };
 
-    ghost restorable = { λ r. ⟦<Fields as DeserializeSeed>⟧.restorable (⟦<Report as Record>⟧.parts r) };
+    ghost restorable = { λ x. ⟦<ListSeed<ReportFields> as DeserializeSeed>⟧.restorable (⟦<Report as Record>⟧.parts x) };
 
-    ghost same = { λ r s. ⟦<Fields as DeserializeSeed>⟧.same
-        (⟦<Report as Record>⟧.parts r) (⟦<Report as Record>⟧.parts s) };
+    ghost same = { λ x y. ⟦<ListSeed<ReportFields> as DeserializeSeed>⟧.same (⟦<Report as Record>⟧.parts x) (⟦<Report as Record>⟧.parts y) };
 
     fn deserialize<D: Deserializer>(alloc: Global, deserializer: D) -> Result<Report, D::Error> {
         let FieldValues {
@@ -119,11 +128,10 @@ impl Deserialize for Report {
         } = read_composite::<Report, D, _>(
             alloc,
             deserializer,
-            0x18,
-            ListSeed(named! {
-                "number", "remark"?, "station", "observers", "readings", "position", "time",
-                "is-checked", "photograph"
-            }),
+            0x18u64,
+            ListSeed(
+                named! { "number", "remark"?, "station", "observers", "readings", "position", "time", "is-checked", "photograph" },
+            ),
         )?;
         let FieldValues {
             value: remark,
@@ -166,4 +174,67 @@ impl Deserialize for Report {
             photograph,
         })
     }
+
+    fn read_encoded(
+        alloc: Global,
+        code: u8,
+        input: &mut &[u8],
+        depth: u16,
+    ) -> Result<Report, GaveUp> {
+        let seed = ListSeed(
+            named! { "number", "remark"?, "station", "observers", "readings", "position", "time", "is-checked", "photograph" },
+        );
+        let FieldValues {
+            value: number,
+            rest,
+        } = read_composite_encoded::<Report, _>(alloc, code, input, depth, 0x18, seed)?;
+        let FieldValues {
+            value: remark,
+            rest,
+        } = rest;
+        let FieldValues {
+            value: station,
+            rest,
+        } = rest;
+        let FieldValues {
+            value: observers,
+            rest,
+        } = rest;
+        let FieldValues {
+            value: readings,
+            rest,
+        } = rest;
+        let FieldValues {
+            value: position,
+            rest,
+        } = rest;
+        let FieldValues { value: time, rest } = rest;
+        let FieldValues {
+            value: is_checked,
+            rest,
+        } = rest;
+        let FieldValues {
+            value: photograph,
+            rest: (),
+        } = rest;
+        Ok(Report {
+            number,
+            remark,
+            station,
+            observers,
+            readings,
+            position,
+            time,
+            is_checked,
+            photograph,
+        })
+    }
 }
+
+impl RoundTrip for Report {
+    fn law() {
+        laws::short_fields_return::<Report, ReportFields>();
+        laws::described_return();
+    }
+}
+// amqp: end of the impls

@@ -17,9 +17,9 @@ pub struct Gust {
 
 // amqp: the impls below are written by tools/derive from the annotations above
 use serde_amqp::derive::{
-    Deserialize, DeserializeSeed, Deserializer, FieldSeeds, FieldValues, Global, ListOf, ListSeed,
-    Optional, Record, Required, RoundTrip, Serialize, SerializeCompounds, Serializer, fields, laws,
-    named, read_composite,
+    Deserialize, DeserializeSeed, Deserializer, FieldSeeds, FieldValues, GaveUp, Global, ListOf,
+    ListSeed, Optional, Record, Required, RoundTrip, Serialize, SerializeCompounds, Serializer,
+    fields, laws, named, read_composite, read_composite_encoded,
 };
 
 impl Serialize for Gust {
@@ -79,6 +79,24 @@ impl Deserialize for Gust {
             deserializer,
             0x17u64,
             ListSeed(named! { "speed", "from"?, "at"? }),
+        )?;
+        let FieldValues { value: from, rest } = rest;
+        let FieldValues {
+            value: at,
+            rest: (),
+        } = rest;
+        Ok(Gust { speed, from, at })
+    }
+
+    fn read_encoded(
+        alloc: Global,
+        code: u8,
+        input: &mut &[u8],
+        depth: u16,
+    ) -> Result<Gust, GaveUp> {
+        let seed = ListSeed(named! { "speed", "from"?, "at"? });
+        let FieldValues { value: speed, rest } = read_composite_encoded::<Gust, _>(
+            alloc, code, input, depth, 0x17, seed,
         )?;
         let FieldValues { value: from, rest } = rest;
         let FieldValues {

@@ -6,6 +6,7 @@ use Rattle.amqp_ser.specs.Tree.{string, Tree, Trees, scalar, trees_of}
 use Rattle.amqp_ser.specs.Compounds.{all_trees, prepend, as_kind, tree_of_parts}
 use Rattle.amqp_ser.specs.declared.kind.CompoundKind.TheVariants as kind
 use Rattle.amqp_ser.specs.Encoding.{encoding}
+use Rattle.amqp_ser.specs.Ranged.{IsRanged}
 use Rattle.amqp_ser.specs.Writable.{uniform_arrays, uniform_arrays_each, inside_each, placed, writable}
 use Rattle.amqp_ser.specs.SizeAndBytes.{IsSizeOf, AreBytesOf}
 use Rattle.amqp_to_value.specs.HasLazy.{has_lazy, has_lazy_each}
@@ -97,8 +98,8 @@ value-refused items e h = value-refused-at items e (subst (λ t. IsImageOf t (Er
 -- The output for a length, an encoding and a value.
 pub reported : (items : List (Bor (List ℕ))) (size : ℕ) (bytes : List ℕ) (value : Value) → IsSizeOf (vector_tree items) (Ok size) → AreBytesOf (vector_tree items) (Ok bytes) → IsImageOf (vector_tree items) (Ok value) → (writable (strings_tree (texts items)) ≡ true) × (three_lines size bytes (text_of (tree_of value)) ≡ report (strings_tree (texts items)))
 reported items size bytes value s b v =
-    let size_is : (writable (strings_tree (texts items)) ≡ true) × (size ≡ length (encoding (strings_tree (texts items)))) = subst (λ t. IsSizeOf t (Ok size)) (strings-whole items) s in
-    let bytes_are : (writable (strings_tree (texts items)) ≡ true) × (bytes ≡ encoding (strings_tree (texts items))) = subst (λ t. AreBytesOf t (Ok bytes)) (strings-whole items) b in
+    let size_is : (writable (strings_tree (texts items)) ≡ true) × (size ≡ length (encoding (strings_tree (texts items)))) × IsRanged (strings_tree (texts items)) = subst (λ t. IsSizeOf t (Ok size)) (strings-whole items) s in
+    let bytes_are : (writable (strings_tree (texts items)) ≡ true) × (bytes ≡ encoding (strings_tree (texts items))) × IsRanged (strings_tree (texts items)) = subst (λ t. AreBytesOf t (Ok bytes)) (strings-whole items) b in
     let value_is : tree_of value ≡ image (strings_tree (texts items)) = stands-image (strings_tree (texts items)) value (strings-not_lazy (texts items)) (subst (λ t. IsImageOf t (Ok value)) (strings-whole items) v) in (
       size_is.0,
       ap (λ n. three_lines n bytes (text_of (tree_of value))) size_is.1

@@ -33,5 +33,7 @@ pub use Rattle.amqp_ser.specs.declared.marker.Marker
 pub use Rattle.amqp_pass.specs.Width
 pub use Rattle.amqp_value.specs.Image
 pub use Rattle.amqp_value.specs.Plain
+pub use Rattle.amqp_value.specs.Sound
 pub use Rattle.amqp_value.specs.Text
 pub use Rattle.amqp_value.specs.TreeOf
+pub use Rattle.amqp_decode.specs.Depth

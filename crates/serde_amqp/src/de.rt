@@ -8,8 +8,9 @@ pub use amqp_de::{
     Alternatives, Composite, ContentOf, DataVariant, Defaulted, Describes, DeserializeSeed, Either,
     ElementsOf, EntriesOf, EnumAccessOf, EnumSeed, FieldSeeds, FieldValues, ListSeed, NamedRecord,
     NamedSeed, Never, Optional, Record, Required, TypeSeed, UnitVariant, Variants, laws, named,
-    read, read_alternatives, read_composite, read_composite_encoded, read_composite_map,
-    read_composite_type, read_described, read_described_encoded, read_described_map,
-    read_fields_map, read_map, read_named, read_named_map, read_no_fields, read_parts_encoded,
-    values, variant, variants,
+    read, read_alternatives, read_alternatives_encoded, read_composite, read_composite_encoded,
+    read_composite_map, read_composite_type, read_composite_type_encoded, read_described,
+    read_described_encoded, read_described_map, read_fields_map, read_map, read_named,
+    read_named_encoded, read_named_map, read_no_fields, read_parts_encoded, values, variant,
+    variants,
 };

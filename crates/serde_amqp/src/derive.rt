@@ -3,10 +3,12 @@
 
 pub use crate::de::{
     Alternatives, Composite, Content, DataVariant, Defaulted, Deserialize, DeserializeError,
-    DeserializeSeed, Deserializer, Either, EnumSeed, FieldSeeds, FieldValues, FixedContent,
+    DeserializeSeed, Deserializer, Either, EnumSeed, FieldSeeds, FieldValues, FixedContent, GaveUp,
     ListSeed, NamedRecord, NamedSeed, Never, Optional, Record, Required, TypeSeed, UnitVariant,
-    named, read, read_alternatives, read_composite, read_composite_map, read_composite_type,
-    read_fields_map, read_named, read_named_map, read_no_fields, variants,
+    named, read, read_alternatives, read_alternatives_encoded, read_composite,
+    read_composite_encoded, read_composite_map, read_composite_type, read_composite_type_encoded,
+    read_fields_map, read_named, read_named_encoded, read_named_map, read_no_fields,
+    read_parts_encoded, variants,
 };
 pub use crate::ser::{
     ListOf, MapOf, Name, Serialize, SerializeCompounds, SerializeScalars, Serializer, VariantOf,

@@ -36,7 +36,9 @@ mod write;
 mod writers;
 
 pub use amqp_data::Error;
-pub use amqp_from_slice::{Limits, from_reader, from_slice, from_slice_limited, round_trip_bytes};
+pub use amqp_from_slice::{
+    Limits, from_reader, from_reader_limited, from_slice, from_slice_limited, round_trip_bytes,
+};
 pub use amqp_from_value::from_value;
 pub use amqp_size::serialized_size;
 pub use amqp_to_value::to_value;

@@ -2,7 +2,7 @@
 //! day number to a date.
 
 pub use amqp_data::{
-    Array, ByteBuf, Dec32, Dec64, Dec128, F32Bits, F64Bits, Multiple, OrderedMap, Symbol,
+    Array, ByteBuf, Dec32, Dec64, Dec128, F32Bits, F64Bits, MapIndex, Multiple, OrderedMap, Symbol,
     SymbolRef, Timestamp, Uuid, civil_from_days,
 };
 pub use amqp_frame::LazyValue;

@@ -2,7 +2,7 @@
 
 pub use amqp_data::markers;
 pub use amqp_ser::{
-    CompoundKind, Field, Fields, Fixed, Keys, ListOf, MapOf, Marker, Name, OptionalField,
+    Compound, CompoundKind, Field, Fields, Fixed, Keys, ListOf, MapOf, Marker, Name, OptionalField,
     Serialize, SerializeCompounds, SerializeMap, SerializeScalars, SerializeSeq, SerializeStruct,
     SerializeStructVariant, SerializeTuple, SerializeTupleStruct, SerializeTupleVariant,
     Serializer, SymbolMapOf, VariantOf, fields, marker_named,

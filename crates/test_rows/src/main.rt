@@ -17,9 +17,10 @@
 //! | `compare BYTES BYTES` | `cmp` of the two values, and which of `<`, `=` and `>` are true |
 //! | `frame BYTES` | `frame_len` and `is_frame` |
 //! | `cut BYTES` | the result of each call of `LazyValue::from_reader` until no byte is left |
+//! | `cut_within LENGTH BYTES` | the result of `LazyValue::from_reader_limited`, and the bytes that are left |
 //! | `prefixes BYTES` | the number of proper prefixes, and of incomplete ones |
 //! | `read TYPE BYTES` | the value as this type: its results |
-//! | `read_within LENGTH/ELEMENTS/LEVELS BYTES` | the `Value` by `from_slice_limited`: its results |
+//! | `read_within LENGTH/ELEMENTS/LEVELS BYTES` | the `Value` by `from_slice_limited` and `from_reader_limited`: its results |
 //! | `readers BYTES` | the scalar types that read the value; for all others it is invalid |
 //! | `parts READER BYTES` | the value by this reader (`parts`, `visitors`): its `Debug` text |
 //! | `visit CALL BYTES` | the visit that this call of a deserializer makes (`visits`) |

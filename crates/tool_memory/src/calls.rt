@@ -2,7 +2,9 @@
 
 use crate::again::Again;
 use crate::report::report;
-use crate::{accessors, conversions, derived_types, own_types, runs, serializer, written};
+use crate::{
+    accessors, built, conversions, copies, derived_types, own_types, runs, serializer, written,
+};
 use amqp_data::{Error, OrderedMap, Symbol, TransparentVec};
 use amqp_frame::{LazyValue, SliceReader};
 use amqp_wire::to_lazy_value;
@@ -27,6 +29,8 @@ pub fn all(rt: &(impl Print + AllocGlobal)) -> Result<(), Error> {
     );
     report(rt, "frames", frames(alloc)?);
     report(rt, "conversions", conversions::all(alloc)?);
+    report(rt, "maps and clones", copies::all(alloc)?);
+    report(rt, "built values", built::all(alloc)?);
     let own_types = own_types::all(alloc)? && derived_types::all(alloc)?;
     report(rt, "types of one's own", own_types);
     report(rt, "calls of a serializer", serializer::all(alloc)?);

@@ -23,13 +23,16 @@
 //! | optional rows of decode and read | `finds_distinct_keys`, `merge_repeated_keys`, `OrderedMapBuilder::new`, `OrderedMapBuilder::with_index`, `OrderedMapBuilder::insert` |
 //! | rows of whole in test_rows, no allocation of which fails | `Whole::whole_bytes`, `Value::whole_bytes` |
 //! | frames, rows of lazy and hold | `LazyValue::from_reader`, `to_lazy_value` |
+//! | rows of cut_within | `LazyValue::from_reader_limited` |
 //! | frames | `LazyValue::try_into_vec` |
 //! | conversions | `Value::try_from_str`, `Value::try_from_described`, `Value::try_from_array`, `Value::try_from_vec` |
 //! | the same | `Value::try_from_btree_map`, `Value::try_from_ordered_map`, `Vec::try_from`, `Array::try_from` |
 //! | the same | `OrderedMap::try_from`, `BTreeMap::try_from`, `HashMap::try_from`, `IndexMap::try_from` |
 //! | the same | `TryFromSerializable::try_from_serializable` |
+//! | maps and clones | `OrderedMap::with_capacity`, `OrderedMap::reserve`, `OrderedMap::extend`, `OrderedMap::lookup` |
+//! | built values | `BuildList::new`, `BuildList::finish`, `BuildMap::new`, `BuildMap::finish`, `IntoValue::into_value`, `SymbolRef::into_value` |
 //! | rows of decode and decode_within | `decode_value`, `decode_value_limited`, `decode_value_to_depth` |
-//! | rows of read_within | `from_slice_limited` |
+//! | rows of read_within | `from_slice_limited`, `from_reader_limited` |
 //! | rows of decode and read | `MapBuilder::new`, `MapBuilder::with_capacity`, `MapBuilder::into_value` |
 //! | rows of read | `from_value`, `from_slice`, `from_reader`, `ReadLazy::read`, `Deserializer::new` |
 //! | the same | `Deserialize::read_encoded`, `Deserialize::read_list`, `Deserialize::read_array`, `read_string`, `read_symbol`, `read_binary` |
@@ -40,6 +43,8 @@
 //! | the same | `read_map`, `read_described_map`, `read_named`, `read_fields_map`, `read_composite_map`, `read_named_map` |
 //! | the same | `read_composite_type`, `Composite::read_body`, `Name::serialize`, `Defaulted::read_elements`, `Defaulted::read_entries` |
 //! | the same | `read_alternatives`, `Alternatives::read_after`, `Either::read_after`, `Never::read_after` |
+//! | the same | `read_composite_type_encoded`, `read_named_encoded`, `Composite::read_body_encoded`, `Defaulted::read_fields` |
+//! | the same | `read_alternatives_encoded`, `Alternatives::read_after_encoded`, `Either::read_after_encoded` |
 //! | the same | `FieldSeeds::read_elements`, `Required::read_elements`, `Optional::read_elements`, `Elements::new` |
 //! | the same | `FieldSeeds::read_entries`, `Required::read_entries`, `Optional::read_entries`, `Entries::new`, `DeserializeSeed::deserialize` |
 //! | the same | `Variants::deserialize`, `EnumSeed::deserialize`, `UnitVariant::deserialize`, `DataVariant::deserialize` |
@@ -67,8 +72,10 @@
 
 mod accessors;
 mod again;
+mod built;
 mod calls;
 mod conversions;
+mod copies;
 mod derived_types;
 mod inserted;
 mod large;

@@ -28,6 +28,7 @@ impl Deserialize for LazyValue {
 
     ghost same = { λ x y. x ≡ y };
 
+    #[tactic(auto, using(crate::proofs::LazyRefused::unreadable, amqp_value::proofs::SoundLemmas::never_transparent))]
     fn deserialize<D: Deserializer>(alloc: Global, deserializer: D) -> Result<LazyValue, D::Error> {
         match to_lazy_value(alloc, &deserializer.into_value()) {
             Ok(lazy) => Ok(lazy),

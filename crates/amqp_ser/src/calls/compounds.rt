@@ -199,7 +199,7 @@ pub trait SerializeCompounds: Serializer {
         // A struct of any form begins as a single compound, because a descriptor may precede its
         // fields. The list or the map is opened with the first field.
         let compound = self.begin_compound(CompoundKind::Single);
-        Ok(SerializeStruct::new(self, compound, struct_encoding(name)))
+        Ok(SerializeStruct::over(self, compound, struct_encoding(name)))
     }
 
     /// Serializes a described value: a descriptor, which is a ulong or a symbol, and a value.
@@ -252,7 +252,7 @@ pub trait SerializeCompounds: Serializer {
         ensures succeeds { IsOk result }
     {
         let compound = self.begin_compound(CompoundKind::Map);
-        Ok(SerializeMap::new(self, compound))
+        Ok(SerializeMap::over(self, compound))
     }
 
     /// Serializes a newtype variant. In an enum named `VALUE` it is the value itself, and in an

@@ -42,7 +42,7 @@ impl<'a, S: Serializer> SerializeMap<'a, S> {
     ghost use Rattle.amqp_ser.specs.contracts.compound.map.SerializeMap.{the_row};
 
     #[inline(always)]
-    pub(crate) fn new(serializer: &'a mut S, compound: S::Open) -> SerializeMap<'a, S>
+    pub(crate) fn over(serializer: &'a mut S, compound: S::Open) -> SerializeMap<'a, S>
         ensures same_reference { result.serializer.ghost_name ≡ serializer.entry.ghost_name }
         ensures now { result.serializer.now ≡ serializer.old }
         ensures compound { result.compound ≡ compound }
@@ -53,6 +53,24 @@ impl<'a, S: Serializer> SerializeMap<'a, S> {
             compound,
             pending: false,
         }
+    }
+
+    /// Begins a map in a serializer, as `serialize_map` does.
+    ///
+    /// # Encoding
+    /// A map (AMQP 1.0 part 1, section 1.6.23).
+    ///
+    /// # Example
+    /// Without entries, the map is `c10100`.
+    #[inline(always)]
+    pub fn new(serializer: &'a mut S) -> SerializeMap<'a, S>
+        ensures opened { MapHas S.has serializer.old result [] }
+        ensures no_key { has_key result ≡ false }
+        ensures same_reference { (map_reference result).ghost_name
+            ≡ serializer.entry.ghost_name }
+    {
+        let compound = serializer.begin_compound(CompoundKind::Map);
+        SerializeMap::over(serializer, compound)
     }
 
     /// Returns the serializer of the map. The map continues with the state that the caller leaves

@@ -1,14 +1,15 @@
 //! Structs: an optional descriptor and a body of fields.
 
-ghost use Rattle.std.specs.Prelude.{◌≡◌, ◌||◌, [], IfOk, IfErr, not, false};
+ghost use Rattle.std.specs.Prelude.{◌≡◌, ◌||◌, [], IfOk, IfErr, None, not, false};
 ghost use mir.Syntax.{named};
 ghost use Rattle.std.specs.Borrow.{Lends, sem};
 ghost use Rattle.amqp_ser.specs.Marked.{is_descriptor_name};
-ghost use Rattle.amqp_ser.specs.OpenStructs.{struct_reference, struct_with_serializer, form_of, has_descriptor, has_field, StructFieldStep, EndsStruct};
+ghost use Rattle.amqp_ser.specs.OpenStructs.{struct_reference, struct_with_serializer, form_of, has_descriptor, has_field, StructFieldStep, StructHas, EndsStruct};
 
 use super::any_field::feed_any;
 use super::body::end_fields;
 use super::list_field::feed_list_field;
+use crate::kind::CompoundKind;
 use crate::names::is_descriptor_name;
 use crate::serialize::Serialize;
 use crate::serializer::Serializer;
@@ -54,7 +55,7 @@ impl<'a, S: Serializer> SerializeStruct<'a, S> {
     ghost use Rattle.amqp_ser.specs.contracts.compound.structs.SerializeStruct.{the_row};
 
     #[inline(always)]
-    pub(crate) fn new(
+    pub(crate) fn over(
         serializer: &'a mut S,
         compound: S::Open,
         form: StructEncoding,
@@ -73,6 +74,66 @@ impl<'a, S: Serializer> SerializeStruct<'a, S> {
             described: false,
             opened: false,
         }
+    }
+
+    /// Begins a struct whose fields are a list. The length is a hint and is not used.
+    ///
+    /// # Encoding
+    /// A list (AMQP 1.0 part 1, section 1.6.22), after the descriptor if there is one.
+    ///
+    /// # Example
+    /// The one field `x`, the ubyte 1, is `c003015001`.
+    #[tactic(auto, unfolding(crate::specs::Structs::Stands))]
+    #[inline(always)]
+    pub fn list(serializer: &'a mut S, _len: usize) -> SerializeStruct<'a, S>
+        ensures opened { StructHas S.permits S.has serializer.old None CompoundKind.Single result [] }
+        ensures form { form_of result ≡ StructEncoding.List }
+        ensures empty { (has_descriptor result ≡ false) × (has_field result ≡ false) }
+        ensures same_reference { (struct_reference result).ghost_name
+            ≡ serializer.entry.ghost_name }
+    {
+        let compound = serializer.begin_compound(CompoundKind::Single);
+        SerializeStruct::over(serializer, compound, StructEncoding::List)
+    }
+
+    /// Begins a struct whose fields are a map from their names.
+    ///
+    /// # Encoding
+    /// A map (AMQP 1.0 part 1, section 1.6.23), after the descriptor if there is one.
+    ///
+    /// # Example
+    /// The one field `x`, the ubyte 1, is `c10602a101785001`.
+    #[tactic(auto, unfolding(crate::specs::Structs::Stands))]
+    #[inline(always)]
+    pub fn map(serializer: &'a mut S) -> SerializeStruct<'a, S>
+        ensures opened { StructHas S.permits S.has serializer.old None CompoundKind.Single result [] }
+        ensures form { form_of result ≡ StructEncoding.Map }
+        ensures empty { (has_descriptor result ≡ false) × (has_field result ≡ false) }
+        ensures same_reference { (struct_reference result).ghost_name
+            ≡ serializer.entry.ghost_name }
+    {
+        let compound = serializer.begin_compound(CompoundKind::Single);
+        SerializeStruct::over(serializer, compound, StructEncoding::Map)
+    }
+
+    /// Begins a struct that is its one field.
+    ///
+    /// # Encoding
+    /// The encoding of the field, after the descriptor if there is one.
+    ///
+    /// # Example
+    /// The one field `x`, the ubyte 1, is `5001`.
+    #[tactic(auto, unfolding(crate::specs::Structs::Stands))]
+    #[inline(always)]
+    pub fn basic(serializer: &'a mut S) -> SerializeStruct<'a, S>
+        ensures opened { StructHas S.permits S.has serializer.old None CompoundKind.Single result [] }
+        ensures form { form_of result ≡ StructEncoding.Single }
+        ensures empty { (has_descriptor result ≡ false) × (has_field result ≡ false) }
+        ensures same_reference { (struct_reference result).ghost_name
+            ≡ serializer.entry.ghost_name }
+    {
+        let compound = serializer.begin_compound(CompoundKind::Single);
+        SerializeStruct::over(serializer, compound, StructEncoding::Single)
     }
 
     /// Returns the serializer of the struct. The struct continues with the state that the caller

@@ -1,6 +1,9 @@
 //! Conversions of scalars to `Value`.
 
-ghost use Rattle.std.specs.Prelude.{◌≡◌};
+ghost use Rattle.std.specs.Prelude.{◌≡◌, IsSomeAnd, to_bits};
+ghost use Rattle.std.specs.Float.Ieee.{binary32, binary64};
+ghost use Rattle.amqp_data.specs.Fixed.{f32_bits, f64_bits};
+ghost use Rattle.amqp_value.specs.Contents.{double_in, float_in};
 ghost use Rattle.amqp_value.specs.declared.value.Value.TheVariants as kind;
 
 use crate::Value;
@@ -163,5 +166,31 @@ impl From<Symbol> for Value {
 
     fn from(content: Symbol) -> Value {
         Value::Symbol(content)
+    }
+}
+
+/// Returns a `Float` of the number's bits. Each NaN gives the bits 7FC00000.
+///
+/// # Example
+/// 1.5 gives a `Float` that is encoded as `723fc00000`.
+impl From<f32> for Value {
+    ghost from_gives = { λ number value.
+        IsSomeAnd (float_in value) (λ bits. f32_bits bits ≡ to_bits binary32 number) };
+
+    fn from(number: f32) -> Value {
+        Value::Float(F32Bits::from(number))
+    }
+}
+
+/// Returns a `Double` of the number's bits. Each NaN gives the bits 7FF8000000000000.
+///
+/// # Example
+/// 1.5 gives a `Double` that is encoded as `823ff8000000000000`.
+impl From<f64> for Value {
+    ghost from_gives = { λ number value.
+        IsSomeAnd (double_in value) (λ bits. f64_bits bits ≡ to_bits binary64 number) };
+
+    fn from(number: f64) -> Value {
+        Value::Double(F64Bits::from(number))
     }
 }

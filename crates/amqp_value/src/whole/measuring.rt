@@ -14,6 +14,7 @@ ghost use Rattle.amqp_value.specs.Noted.{NotesIf};
 use crate::Value;
 use crate::whole::bodies::Bodies;
 use crate::whole::constructors::{all_have, constructor_of, constructor_of_each, width_of};
+use crate::whole::ranges::{read_each, read_scalar};
 use crate::whole::sizes::{
     NOT_MEASURED, array_size, compound_payload_size, descriptor_size, exact_size, int_size,
     list_size, long_size, map_size, text_payload_size, text_size, uint_size, ulong_size,
@@ -29,6 +30,7 @@ pub(crate) fn measure<B: Bodies>(value: &Value, bodies: &mut B) -> usize
     ensures noted { B.keeps ≡ true → NotesIf (IsLength result)
         (headers_of (tree_of value.now)) (B.noted bodies.old) (B.noted bodies.new) }
 {
+    read_scalar(value);
     match value {
         Value::Null => 1,
         Value::Bool(_) => 1,
@@ -186,6 +188,7 @@ fn measure_content<B: Bodies>(items: &[Value], bodies: &mut B) -> usize
             }
             let width = width_of(code);
             if width > 0 {
+                read_each(items);
                 return items.len().saturating_mul(width).saturating_add(1);
             }
             measure_payloads(items, bodies).saturating_add(1)
@@ -221,6 +224,7 @@ fn measure_payload<B: Bodies>(value: &Value, bodies: &mut B) -> usize
     ensures noted { B.keeps ≡ true → NotesIf (IsLength result)
         (headers_of (tree_of value.now)) (B.noted bodies.old) (B.noted bodies.new) }
 {
+    read_scalar(value);
     match value {
         Value::Null => 0,
         Value::Bool(_) => 1,

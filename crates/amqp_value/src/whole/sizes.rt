@@ -5,11 +5,13 @@ ghost use Rattle.amqp_ser.specs.Tree as tree;
 ghost use Rattle.amqp_ser.specs.Carried.{descriptor_content};
 ghost use Rattle.amqp_ser.specs.Encoding.{descriptor_form};
 ghost use Rattle.amqp_ser.specs.Limits.{fits};
+ghost use Rattle.amqp_ser.specs.Ranged.{IsRangedDescriptor};
 ghost use Rattle.amqp_ser.specs.Scalars.{scalar_form};
 ghost use Rattle.amqp_ser.specs.Writable.{descriptor_fits};
 ghost use Rattle.amqp_pass.specs.Width.{text_width, map_width, list_width, array_width};
 ghost use Rattle.amqp_value.specs.Measured.{IsLength};
 
+use crate::whole::ranges::read_text;
 use amqp_data::Descriptor;
 use amqp_pass::width::{MAX_COUNT, MAX_LEN};
 
@@ -107,9 +109,13 @@ pub(crate) fn descriptor_size(descriptor: &Descriptor) -> usize
     ensures fits { IsLength result → descriptor_fits (descriptor_content descriptor.now) ≡ true }
     ensures len { IsLength result →
         result ≡ length (descriptor_form (descriptor_content descriptor.now)) }
+    ensures ranged { IsRangedDescriptor (descriptor_content descriptor.now) }
 {
     match descriptor {
-        Descriptor::Name(name) => text_size(name.as_inner().len()),
+        Descriptor::Name(name) => {
+            read_text(name.as_inner());
+            text_size(name.as_inner().len())
+        }
         Descriptor::Code(code) => ulong_size(*code),
     }
 }

@@ -22,9 +22,9 @@ pub struct Counter {
 
 // amqp: the impls below are written by tools/derive from the annotations above
 use serde_amqp::derive::{
-    Composite, Deserialize, DeserializeSeed, Deserializer, FieldSeeds, FieldValues, Global, ListOf,
-    ListSeed, Record, Required, Serialize, SerializeCompounds, Serializer, fields, named, read,
-    read_composite_type,
+    Composite, Deserialize, DeserializeSeed, Deserializer, FieldSeeds, FieldValues, GaveUp, Global,
+    ListOf, ListSeed, Record, Required, Serialize, SerializeCompounds, Serializer, fields, named,
+    read, read_composite_type, read_composite_type_encoded, read_parts_encoded,
 };
 
 impl Serialize for Gauge {
@@ -104,6 +104,27 @@ impl Composite for Gauge {
             is_open,
         })
     }
+
+    fn read_body_encoded(
+        alloc: Global,
+        code: u8,
+        input: &mut &[u8],
+        depth: u16,
+    ) -> Result<Gauge, GaveUp> {
+        let seed = ListSeed(named! { "gauge-number", "is-open" });
+        let FieldValues {
+            value: gauge_number,
+            rest,
+        } = read_parts_encoded::<Gauge, _>(alloc, code, input, depth, seed)?;
+        let FieldValues {
+            value: is_open,
+            rest: (),
+        } = rest;
+        Ok(Gauge {
+            gauge_number,
+            is_open,
+        })
+    }
 }
 
 impl Deserialize for Gauge {
@@ -121,6 +142,15 @@ impl Deserialize for Gauge {
 
     fn deserialize<D: Deserializer>(alloc: Global, deserializer: D) -> Result<Gauge, D::Error> {
         read_composite_type::<Gauge, D>(alloc, deserializer)
+    }
+
+    fn read_encoded(
+        alloc: Global,
+        code: u8,
+        input: &mut &[u8],
+        depth: u16,
+    ) -> Result<Gauge, GaveUp> {
+        read_composite_type_encoded::<Gauge>(alloc, code, input, depth)
     }
 }
 
@@ -145,6 +175,18 @@ impl Deserialize for Count {
 
     fn deserialize<D: Deserializer>(alloc: Global, deserializer: D) -> Result<Count, D::Error> {
         match <i32 as Deserialize>::deserialize(alloc, deserializer) {
+            Ok(value) => Ok(Count(value)),
+            Err(error) => Err(error),
+        }
+    }
+
+    fn read_encoded(
+        alloc: Global,
+        code: u8,
+        input: &mut &[u8],
+        depth: u16,
+    ) -> Result<Count, GaveUp> {
+        match <i32 as Deserialize>::read_encoded(alloc, code, input, depth) {
             Ok(value) => Ok(Count(value)),
             Err(error) => Err(error),
         }
@@ -197,6 +239,20 @@ impl Deserialize for Counter {
             value: count,
             rest: (),
         } = read::<Counter, D, _>(alloc, deserializer, ListSeed(named! { "count" }))?;
+        Ok(Counter { count })
+    }
+
+    fn read_encoded(
+        alloc: Global,
+        code: u8,
+        input: &mut &[u8],
+        depth: u16,
+    ) -> Result<Counter, GaveUp> {
+        let seed = ListSeed(named! { "count" });
+        let FieldValues {
+            value: count,
+            rest: (),
+        } = read_parts_encoded::<Counter, _>(alloc, code, input, depth, seed)?;
         Ok(Counter { count })
     }
 }

@@ -3,7 +3,6 @@
 
 ghost use Rattle.std.specs.Prelude.{◌≡◌, ◌≤◌, ℕ, IfOk, List, Some};
 ghost use Rattle.amqp_decode.specs.Depth.{IsOrdinary, depth_of};
-ghost use Rattle.amqp_ser.specs.Ranged.{IsRanged};
 ghost use Rattle.amqp_ser.specs.Tree.{Tree};
 ghost use Rattle.amqp_value.specs.Image.{image};
 ghost use Rattle.amqp_value.specs.TreeOf.{tree_of};
@@ -189,7 +188,7 @@ fn texts_are_their_lines()
 
 // Encodes the value as a lazy value and decodes it: the result has the image of the value's tree.
 fn inside<T: Serialize>(alloc: Global, v: &T) -> Result<Value, Error>
-    ensures { IfOk result (λ w. (t : Tree) → T.tree v.now ≡ Some t → IsRanged t → IsOrdinary t →
+    ensures { IfOk result (λ w. (t : Tree) → T.tree v.now ≡ Some t → IsOrdinary t →
         depth_of t ≤ 256 → tree_of w ≡ image t) }
 {
     let lazy = ser::to_lazy_value(alloc, v)?;

@@ -1,8 +1,11 @@
 //! Untyped values: conversions, equality, and each law once. Rows of texts, of format codes and of
 //! order are data of the program `test_rows`.
 
+mod accessors;
+mod building;
 mod conversions;
 mod distinct_keys;
+mod map_calls;
 mod maps;
 mod order;
 mod writers;

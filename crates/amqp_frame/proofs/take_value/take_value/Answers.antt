@@ -1,10 +1,17 @@
-use Rattle.std.proofs.Common.{◌≡◌, ◌≤◌, ◌∷◌, [], ◌++◌, length, sym, ap, length-append, arith}
+use Rattle.std.proofs.Common.{◌≡◌, ◌≤◌, ◌<◌, ◌∷◌, [], ◌++◌, length, sym, ap, length-append, arith}
 use Rattle.std.proofs.lemmas.Result.{err_from_is_err_and}
 use Rattle.std.proofs.KnownBytes.{Consumes-trans}
 use Rattle.amqp_frame.proofs.Open.{open-more, open-frame}
-use Rattle.amqp_frame.proofs.Taking.{refuses-later}
-use Rattle.amqp_frame.proofs.Ends.{ends-at-code, ends-in-payload, loses-code, keeps-primitive, grown}
+use Rattle.amqp_frame.proofs.Taking.{limited-after, limited-later}
+use Rattle.amqp_frame.proofs.Ends.{ends-at-code, ends-in-payload, limit-in-payload, limit-at-code, loses-code, keeps-primitive, grown}
 use Rattle.amqp_frame.proofs.take_value.take_value.Goals as goal
+
+pub returns-then-len-limit-clause-refused : goal.returns-then-len-limit-clause-refused
+returns-then-len-limit-clause-refused g c =
+    let o = c.loop-open.invariant in
+    let within = o.within in
+    limit-at-code _ _ c.loop-open.taken.items _ c.args.limit o.completes (omega arith)
+    (omega (arith, c.loop-open.taken.ok.0)) o.moved
 
 pub returns-in_err-code-clause-refused : goal.returns-in_err-code-clause-refused
 returns-in_err-code-clause-refused g c =
@@ -12,7 +19,7 @@ returns-in_err-code-clause-refused g c =
     let p = err_from_is_err_and c.from_residual.result c.from_residual.ensures.1 in
     let taken = c.loop-open.taken.items in
     let at_end = ends-at-code _ _ _ taken _ o.completes (omega arith) o.moved in
-    rw (p.1, p.2) (refuses-later _ _ _ _ _ _ taken o.moved o.count c.next_code.ensures.count at_end (λ h. absurd h)
+    rw (p.1, p.2) (limited-after _ _ _ _ _ _ _ taken o.moved o.count c.next_code.ensures.count at_end (λ h. absurd h)
     c.in_err-code.field-0.0 c.in_err-code.ensures.refused)
 
 pub loop-open-preserved-then-code-eq0 : goal.loop-open-preserved-then-code-eq0
@@ -33,6 +40,7 @@ loop-open-preserved-then-code-eq0 g c =
         length-append c.loop-open.taken.items (0 ∷ []),
       );
       count = omega (arith, o.count, was.count);
+      within = omega (arith, ap length more, length-append c.loop-open.taken.items (0 ∷ []));
     }
 
 pub returns-in_err-push_zero-clause-refused : goal.returns-in_err-push_zero-clause-refused
@@ -60,10 +68,16 @@ returns-in_err-take_primitive-clause-refused g c =
     let moved = Consumes-trans _ _ _ _ _ o.moved was.ok in
     let refused = c.in_err-take_primitive.ensures.refused in
     let taken = c.loop-open.taken.items ++ c.in_ok-code.code ∷ [] in
-    let at_end = ends-in-payload _ _ _ c.loop-open.taken.items c.in_ok-code.code _ o.completes (omega arith)
-    (sym c.if-not-is_primitive.ensures) moved in
-    rw (p.1, p.2) (refuses-later _ _ _ _ _ _ taken moved (omega (arith, o.count, was.count))
-    c.take_primitive.ensures.count at_end (λ h. absurd h) c.in_err-take_primitive.field-0.0 refused)
+    let room : length c.loop-open.taken.items < c.args.limit = omega (arith, c.loop-open.taken.ok.0) in
+    let some : 0 < c.loop-open.open = omega arith in
+    let count : g.R.Read.failures c.args.reader.now ≤ g.R.Read.failures c.next_code.new.reader
+    = omega (arith, o.count, was.count) in
+    let primitive = sym c.if-not-is_primitive.ensures in
+    let at_limit = limit-in-payload _ _ _ c.loop-open.taken.items c.in_ok-code.code _ c.args.limit o.completes some room
+    primitive moved in
+    let at_end = ends-in-payload _ _ _ c.loop-open.taken.items c.in_ok-code.code _ o.completes some primitive moved in
+    rw (p.1, p.2) (limited-later _ _ _ _ _ _ _ _ taken moved count c.take_primitive.ensures.count at_limit at_end
+    (λ h. absurd h) c.in_err-take_primitive.field-0.0 refused)
 
 pub loop-open-preserved : goal.loop-open-preserved
 loop-open-preserved g c =
@@ -80,6 +94,7 @@ loop-open-preserved g c =
           (sym c.if-not-is_primitive.ensures) payload.3 whole;
       bound = omega (arith, len, c.take_primitive.new.taken.ok.0, c.loop-open.taken.ok.0);
       count = omega (arith, o.count, was.count, c.take_primitive.ensures.count);
+      within = omega (arith, c.in_ok-take_primitive.ensures.within, c.take_primitive.new.taken.ok.0);
     }
 
 pub returns-clause-frame : goal.returns-clause-frame

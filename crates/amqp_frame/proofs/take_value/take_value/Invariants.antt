@@ -9,6 +9,7 @@ invariant-loop-open g l = record {
   completes : Open l.taken.items l.open;
   bound : l.open ≤ vec_len l.taken + 1;
   count : g.R.Read.failures l.initial.reader ≤ g.R.Read.failures l.reader;
+  within : vec_len l.taken ≤ l.limit;
 }
 
 abbrev pub decreases-loop-open : goal.decreases-loop-open

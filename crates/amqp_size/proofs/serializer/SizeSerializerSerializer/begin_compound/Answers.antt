@@ -53,6 +53,7 @@ gathers start kind new a b g f d e =
         within_limits_parts = refl;
         inside_parts = refl;
         one = n.1.1;
+        ranged_parts = tt;
       };
     }
 
@@ -76,6 +77,7 @@ opened start kind new a b f d e resolved_kinds.Transparent q = inr (inl (record 
   uniform_arrays_parts = refl;
   within_limits_parts = refl;
   placed_parts = refl;
+  ranged_parts = tt;
 }))
 opened start kind new a b f d e resolved_kinds.Single q = inr (inr (record {
   kind_is = single_kind start.context kind q;

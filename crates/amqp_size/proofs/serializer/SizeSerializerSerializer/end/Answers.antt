@@ -22,7 +22,7 @@ returns-in-Map-clause-answered c = λ start kind ps h done.
     let m : MapEnd start kind c.args.compound ps = map_end start kind c.args.compound ps g done (sym c.resolved_kind.ensures ∙ c.in-Map.is) in
     let sum = c.sum-sum.ensures.sum in
     stands start.context (position_at c.position-position.result c.prefix_len-prefix_len.result) (tree_of_parts kind ps) (map m.pairs) _ _ (sym g.position ∙ sym there) m.is
-    (c.size_at-in-Map.ensures (h.1 ∙ ap (λ q. Plain (without_prefix q)) (sym there)) (map m.pairs) refl m.within_limits_it m.uniform_arrays_it m.inside_it m.inside_it (m.ordinary ∙ ap map_width (sym sum) ∙ sym c.map_width.ensures) (let w = m.wide in omega arith))
+    (c.size_at-in-Map.ensures (h.1 ∙ ap (λ q. Plain (without_prefix q)) (sym there)) (map m.pairs) refl m.within_limits_it m.uniform_arrays_it m.inside_it m.inside_it (m.ordinary ∙ ap map_width (sym sum) ∙ sym c.map_width.ensures) (let w = m.wide in omega arith) m.ranged_it)
 
 pub returns-in-Variant-clause-answered : goal.returns-in-Variant-clause-answered
 returns-in-Variant-clause-answered c = λ start kind ps h done.
@@ -34,7 +34,7 @@ returns-in-Variant-clause-answered c = λ start kind ps h done.
     let bytes = m.bytes in
     stands start.context (position_at c.position-position.result c.prefix_len-prefix_len.result) (tree_of_parts kind ps) (variant i (list m.ts)) _ _ (sym g.position ∙ sym there) m.is
     (c.variant.ensures (h.1 ∙ ap (λ q. Plain (without_prefix q)) (sym there)) (variant i (list m.ts)) (list m.ts) refl m.uniform_arrays_it m.inside_it m.inside_it m.within_limits_it (ap (λ n. fits n && within_limits (list m.ts)) bytes)
-    (length-counted 0xc1 0xd1 2 (scalar_form (uint i) ++ encoding (list m.ts)) ∙ ap map_width bytes) (omega (arith, bytes)))
+    (length-counted 0xc1 0xd1 2 (scalar_form (uint i) ++ encoding (list m.ts)) ∙ ap map_width bytes) (omega (arith, bytes)) (λ lt. (lt, m.ranged_it)))
 
 pub returns-in-Refused-clause-answered : goal.returns-in-Refused-clause-answered
 unfolding tree_of_parts

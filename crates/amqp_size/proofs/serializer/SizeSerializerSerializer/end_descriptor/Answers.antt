@@ -3,6 +3,7 @@ use Rattle.amqp_pass.specs.declared.size_error.SizeError.{SizeError}
 use Rattle.amqp_ser.specs.Tree.{Tree, Descriptor}
 use Rattle.amqp_ser.specs.Encoding.{descriptor_form}
 use Rattle.amqp_ser.specs.Writable.{descriptor_fits}
+use Rattle.amqp_ser.specs.Ranged.{IsRangedDescriptor}
 use Rattle.amqp_ser.specs.Composites.{as_described, descriptor_of}
 use Rattle.amqp_ser.specs.declared.kind.CompoundKind.TheVariants as kinds
 use Rattle.amqp_pass.specs.Position.{position_of, meant, without_prefix, described_context}
@@ -17,12 +18,12 @@ use Rattle.amqp_size.proofs.serializer.SizeSerializerSerializer.end_descriptor.G
 
 -- What holds after a descriptor is measured or exceeds the limit.
 known : (start now : SizeSerializer) (compound new : OpenCompound) (n : ℕ) (x : Descriptor) (d : Option Tree) (res : Result (Unit {0}) SizeError) → HoldsSingle start kinds.Single compound [] → now.context ≡ Plain (without_prefix compound.position) →
-    descriptor_of d ≡ Some x → n ≡ length (descriptor_form x) → descriptor_fits x ≡ true → without_prefix new.position ≡ without_prefix compound.position → new.resolved_kind ≡ compound.resolved_kind → new.count ≡ compound.count →
+    descriptor_of d ≡ Some x → n ≡ length (descriptor_form x) → descriptor_fits x ≡ true → IsRangedDescriptor x → without_prefix new.position ≡ without_prefix compound.position → new.resolved_kind ≡ compound.resolved_kind → new.count ≡ compound.count →
     MatchResult res (λ _. described_context compound.inner_context n ≡ Some new.inner_context) (λ e. (new ≡ compound) × Undescribed compound.inner_context n e) →
     MatchResult res
     (λ _. (mid : SizeSerializer) × (SizeHas mid kinds.Single now new [] × ((t : Option Tree) (r : Result ℕ SizeError) (after : SizeSerializer) → SizePermits mid t r after → SizePermits start (as_described (descriptor_of d) t) r after)))
     (λ e. SizeHas start kinds.Single now new [] × ((t : Option Tree) → SizePermits start (as_described (descriptor_of d) t) (Err e) now))
-known start now compound new n x d (Ok u) h here o len fits a b c m =
+known start now compound new n x d (Ok u) h here o len fits g a b c m =
     let s : described_context start.context n ≡ Some new.inner_context = sym (ap (λ w. described_context w n) h.parts.1) ∙ m in
     let mid : SizeSerializer = record { context = new.inner_context } in (
       mid,
@@ -36,10 +37,10 @@ known start now compound new n x d (Ok u) h here o len fits a b c m =
           })),
           here ∙ ap Plain (sym a),
         ),
-        λ t r after p. subst (λ w. AtPosition (position_of start.context) (meant start.context (as_described w t)) r after.context) (sym o) (described_step start.context new.inner_context n x s len fits t r after.context p),
+        λ t r after p. subst (λ w. AtPosition (position_of start.context) (meant start.context (as_described w t)) r after.context) (sym o) (described_step start.context new.inner_context n x s len fits g t r after.context p),
       ),
     )
-known start now compound new n x d (Err e) h here o len fits a b c m =
+known start now compound new n x d (Err e) h here o len fits g a b c m =
     let why : Undescribed start.context n e = subst (λ w. Undescribed w n e) h.parts.1 m.1 in
     let at : Plain (without_prefix (position_of start.context)) ≡ now.context = ap Plain (sym h.position) ∙ sym here in (
       (subst (λ w. SizeHas start kinds.Single now w []) (sym m.0) (inr (inr h), here)),
@@ -55,4 +56,4 @@ returns-clause-step c = λ start before d w r.
     let here = subst (λ u. AtPosition (position_of u) (meant u d) c.args.part after) w.1 r in
     let counted = counted_descriptor d n after (subst (λ p. AtPosition position.Descriptor d p after) c.in_ok-descriptor.was here) in
     let t = c.describe.ensures in
-    known start _ compound c.describe.new.self n counted.0 d c.describe.result w.0 (ap Plain (c.without_prefix.ensures compound.prefix_len _ ∙ ap without_prefix c.position.ensures)) counted.1.0 counted.1.1.0 counted.1.1.1 t.position t.resolved_kind t.count t.kept
+    known start _ compound c.describe.new.self n counted.0 d c.describe.result w.0 (ap Plain (c.without_prefix.ensures compound.prefix_len _ ∙ ap without_prefix c.position.ensures)) counted.1.0 counted.1.1.0 counted.1.1.1.0 counted.1.1.1.1 t.position t.resolved_kind t.count t.kept

@@ -15,5 +15,5 @@ returns-in-Plain-clause-answered c =
     let v = c.args.fixed in
     let stood : c.args.self.now.context ≡ Plain (position_at c.in-Plain.position c.self.inside.prefix_len) = sym (ap (λ (s : SizeSerializer). s.context) c.self.view_is) ∙ ap (λ u. context_at u c.self.inside.prefix_len) c.in-Plain.is in
     let counted = c.size_at.ensures (c.clear_prefix.ensures ∙ ap (λ u. Plain (without_prefix (position_of u))) stood) (scalar (fixed_scalar v)) (ap Some (sym c.in_array-wide.ensures.code)) (fixed_fits v) refl refl refl
-    (length-ordinary c.ordinary-ordinary.result v c.ordinary-ordinary.ensures.bytes) (length-payload c.in_array-wide.result v c.in_array-wide.ensures.payload) in
+    (length-ordinary c.ordinary-ordinary.result v c.ordinary-ordinary.ensures.bytes) (length-payload c.in_array-wide.result v c.in_array-wide.ensures.payload) c.in_array-wide.ensures.ranged in
     subst (λ (u : Context). AtPosition (position_of u) (meant u (Some (scalar (fixed_scalar v)))) c.size_at.result c.size_at.new.self.context) (sym stood) counted

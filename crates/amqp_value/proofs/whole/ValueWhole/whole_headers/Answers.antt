@@ -12,6 +12,13 @@ pub returns-clause-extends : goal.returns-clause-extends
 returns-clause-extends c =
     follows_turned c.args.headers.now.items c.measure-len.new.bodies.items c.reverse_from.new.headers.items c.len-start.result (search rules) (c.measure-len.ensures.noted refl).0 c.reverse_from.ensures
 
+pub returns-clause-ranged : goal.returns-clause-ranged
+returns-clause-ranged c =
+    let below = c.measure-len.type_inv in
+    let other = c.if-len.false in
+    let ok : IsLength c.measure-len.result = omega arith in
+    (c.measure-len.ensures.measured ok).ranged
+
 pub returns-clause-listed : goal.returns-clause-listed
 returns-clause-listed c =
     let below = c.measure-len.type_inv in

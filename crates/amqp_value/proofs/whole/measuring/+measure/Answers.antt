@@ -32,7 +32,7 @@ measure_content-returns-then-width-gt0-clause-measured g t c ok =
     let code = c.constructor_of-code.result in
     let some : 0 < code = omega arith in
     let width : 0 < width_for code = rw c.width_of-width.ensures at c.if-width-gt0.true in
-    of_numbers c.args.items.now c.in-Some.first.now code c.saturating_mul.result c.saturating_add.result item.3.0 item.1 (c.constructor_of-code.ensures.some some) (c.all_have.ensures c.if-not-all_have.false some) width
+    of_numbers c.args.items.now c.in-Some.first.now code c.saturating_mul.result c.saturating_add.result item.3.0 item.1 (c.constructor_of-code.ensures.some some) (c.all_have.ensures c.if-not-all_have.false some) width c.read_each.ensures
     (rw c.width_of-width.ensures at c.saturating_mul.ensures) c.saturating_add.ensures ok
 
 pub measure-returns-in-Map-clause-noted : goal.measure-returns-in-Map-clause-noted

@@ -1,0 +1,113 @@
+//! The builder behind `list!`.
+
+ghost use Rattle.std.specs.Prelude.{◌≡◌, [], IfSome, MatchResult, Some};
+ghost use Rattle.amqp_value.specs.Builds.{AddsItem, IsListOf, items_built, items_of};
+
+use crate::Value;
+use crate::build::IntoValue;
+use amqp_data::Error;
+use std::alloc::Global;
+
+/// A list that is being built, item by item. If an allocation fails, `finish` returns the error.
+///
+/// # Example
+/// `BuildList::new(alloc).item(1u8).item(true).finish()?` is encoded as `c00402500141`.
+#[derive(Drop)]
+pub struct BuildList {
+    alloc: Global,
+    items: Option<Vec<Value>>,
+}
+
+impl BuildList {
+    /// Returns a list without items.
+    ///
+    /// # Memory
+    /// Allocates nothing. Keeps `alloc` for the items.
+    ///
+    /// # Example
+    /// The list is encoded as `45`.
+    pub fn new(alloc: Global) -> BuildList
+        ensures { items_built result ≡ Some [] }
+    {
+        BuildList {
+            alloc,
+            items: Some(Vec::new(alloc)),
+        }
+    }
+
+    /// Appends an item.
+    ///
+    /// # Memory
+    /// That of a growing vector, and a copy of a text.
+    ///
+    /// # Example
+    /// After the ubyte 1, the list is encoded as `c003015001`.
+    pub fn item<T: IntoValue>(self, item: T) -> BuildList
+        ensures { IfSome (items_built result) (AddsItem (T.becomes item) (items_built self)) }
+    {
+        let BuildList { alloc, items } = self;
+        BuildList {
+            alloc,
+            items: push(alloc, items, item),
+        }
+    }
+
+    /// Returns the list.
+    ///
+    /// # Errors
+    /// Returns `Error::OutOfMemory` if an allocation failed.
+    ///
+    /// # Memory
+    /// Allocates nothing.
+    ///
+    /// # Example
+    /// Without items, the list is encoded as `45`.
+    pub fn finish(self) -> Result<Value, Error>
+        ensures { MatchResult result (IsListOf (items_built self)) (λ e. e ≡ Error.OutOfMemory) }
+    {
+        match self.items {
+            Some(items) => Ok(Value::List(items)),
+            None => Err(Error::OutOfMemory),
+        }
+    }
+}
+
+// Appends an item, unless an allocation failed before.
+fn push<T: IntoValue>(alloc: Global, items: Option<Vec<Value>>, item: T) -> Option<Vec<Value>>
+    ensures { IfSome result (λ after. AddsItem (T.becomes item) (items_of items) after.items) }
+{
+    let mut items = items?;
+    let value = item.into_value(alloc).ok()?;
+    items.push(value).ok()?;
+    Some(items)
+}
+
+/// Builds a list: `list![in alloc; item, ..]`, of type `Result<Value, Error>`.
+///
+/// An item is `null`, `sym` and a text for a symbol, or an expression of a type that is
+/// [`IntoValue`](crate::IntoValue), such as a number, a text or a `Value`. Nested lists and maps are
+/// written with `?`.
+///
+/// # Example
+/// `list![in alloc; 1u32, "a", null]?` is encoded as `c007035201a1016140`.
+#[macro_export]
+macro_rules! list {
+    (in $alloc:expr; $($items:tt)*) => {
+        $crate::list_items!($crate::BuildList::new($alloc); $($items)*)
+    };
+}
+
+/// Appends the items of `list!`. It is exported because `list!` expands to it.
+#[macro_export]
+macro_rules! list_items {
+    ($built:expr;) => { $built.finish() };
+    ($built:expr; null $(, $($rest:tt)*)?) => {
+        $crate::list_items!($built.item(()); $($($rest)*)?)
+    };
+    ($built:expr; sym $text:literal $(, $($rest:tt)*)?) => {
+        $crate::list_items!($built.item($crate::SymbolRef::from($text)); $($($rest)*)?)
+    };
+    ($built:expr; $item:expr $(, $($rest:tt)*)?) => {
+        $crate::list_items!($built.item($item); $($($rest)*)?)
+    };
+}

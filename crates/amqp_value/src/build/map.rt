@@ -1,0 +1,138 @@
+//! The builder behind `map!`.
+
+ghost use Rattle.std.specs.Prelude.{◌≡◌, IfSome, MatchResult, Some};
+ghost use Rattle.amqp_ser.specs.Tree.{no_pairs};
+ghost use Rattle.amqp_value.specs.Builds.{AddsEntry, IsMapWith, pairs_built, pairs_of_builder};
+ghost use Rattle.amqp_value.specs.MapBuilder.{collected_pairs};
+
+use crate::build::IntoValue;
+use crate::{MapBuilder, Value};
+use amqp_data::Error;
+use std::alloc::Global;
+
+/// A map that is being built, entry by entry. If an allocation fails, `finish` returns the error.
+///
+/// # Example
+/// `BuildMap::new(alloc).entry("k", 1u8).finish()?` is encoded as `c10602a1016b5001`.
+#[derive(Drop)]
+pub struct BuildMap {
+    alloc: Global,
+    entries: Option<MapBuilder>,
+}
+
+impl BuildMap {
+    /// Returns a map without entries.
+    ///
+    /// # Memory
+    /// Allocates nothing. Keeps `alloc` for the entries.
+    ///
+    /// # Example
+    /// The map is encoded as `c10100`.
+    pub fn new(alloc: Global) -> BuildMap
+        ensures { pairs_built result ≡ Some no_pairs }
+    {
+        BuildMap {
+            alloc,
+            entries: Some(MapBuilder::new(alloc)),
+        }
+    }
+
+    /// Inserts an entry. A repeated key keeps its position and gets the new value.
+    ///
+    /// # Memory
+    /// That of a growing vector, and copies of texts.
+    ///
+    /// # Example
+    /// After the string `k` with the ubyte 1, the map is encoded as `c10602a1016b5001`.
+    pub fn entry<K: IntoValue, V: IntoValue>(self, key: K, value: V) -> BuildMap
+        ensures { IfSome (pairs_built result)
+            (AddsEntry (K.becomes key) (V.becomes value) (pairs_built self)) }
+    {
+        let BuildMap { alloc, entries } = self;
+        BuildMap {
+            alloc,
+            entries: insert(alloc, entries, key, value),
+        }
+    }
+
+    /// Returns the map.
+    ///
+    /// # Errors
+    /// Returns `Error::OutOfMemory` if an allocation failed, or fails now.
+    ///
+    /// # Memory
+    /// See [`MapBuilder::into_value`].
+    ///
+    /// # Example
+    /// Without entries, the map is encoded as `c10100`.
+    pub fn finish(self) -> Result<Value, Error>
+        ensures { MatchResult result (IsMapWith (pairs_built self)) (λ e. e ≡ Error.OutOfMemory) }
+    {
+        let BuildMap { alloc, entries } = self;
+        match entries {
+            Some(entries) => entries.into_value(alloc),
+            None => Err(Error::OutOfMemory),
+        }
+    }
+}
+
+// Inserts an entry, unless an allocation failed before.
+fn insert<K: IntoValue, V: IntoValue>(
+    alloc: Global,
+    entries: Option<MapBuilder>,
+    key: K,
+    value: V,
+) -> Option<MapBuilder>
+    ensures { IfSome result (λ after. AddsEntry (K.becomes key) (V.becomes value)
+        (pairs_of_builder entries) (collected_pairs after)) }
+{
+    let mut entries = entries?;
+    let key = key.into_value(alloc).ok()?;
+    let value = value.into_value(alloc).ok()?;
+    entries.insert(key, value).ok()?;
+    Some(entries)
+}
+
+/// Builds a map: `map!{in alloc; key => value, ..}`, of type `Result<Value, Error>`.
+///
+/// A key or a value is as an item of [`list!`](crate::list): `null`, `sym` and a text for a symbol,
+/// or an expression of a type that is [`IntoValue`](crate::IntoValue). A value after `sym` or `null`
+/// as a key is written the same way.
+///
+/// # Example
+/// `map!{in alloc; "k" => 1u8, sym "s" => null}?` is encoded as `c10a04a1016b5001a3017340`.
+#[macro_export]
+macro_rules! map {
+    (in $alloc:expr; $($entries:tt)*) => {
+        $crate::map_entries!($crate::BuildMap::new($alloc); $($entries)*)
+    };
+}
+
+/// Inserts the entries of `map!`. It is exported because `map!` expands to it.
+#[macro_export]
+macro_rules! map_entries {
+    ($built:expr;) => { $built.finish() };
+    ($built:expr; sym $key:literal => $($rest:tt)*) => {
+        $crate::map_value!($built; $crate::SymbolRef::from($key); $($rest)*)
+    };
+    ($built:expr; null => $($rest:tt)*) => {
+        $crate::map_value!($built; (); $($rest)*)
+    };
+    ($built:expr; $key:expr => $($rest:tt)*) => {
+        $crate::map_value!($built; $key; $($rest)*)
+    };
+}
+
+/// Inserts an entry of `map!` whose key is known. It is exported because `map!` expands to it.
+#[macro_export]
+macro_rules! map_value {
+    ($built:expr; $key:expr; null $(, $($rest:tt)*)?) => {
+        $crate::map_entries!($built.entry($key, ()); $($($rest)*)?)
+    };
+    ($built:expr; $key:expr; sym $text:literal $(, $($rest:tt)*)?) => {
+        $crate::map_entries!($built.entry($key, $crate::SymbolRef::from($text)); $($($rest)*)?)
+    };
+    ($built:expr; $key:expr; $value:expr $(, $($rest:tt)*)?) => {
+        $crate::map_entries!($built.entry($key, $value); $($($rest)*)?)
+    };
+}

@@ -1,0 +1,111 @@
+//! Calls of `OrderedMap` and the text of a uuid. Each row is a call and the expected result.
+
+use crate::tests::rows::{gives, is};
+use crate::tests::values::ordered_map;
+use amqp_data::{Error, OrderedMap, Symbol, Uuid};
+use amqp_value::Value;
+use std::test::Fail;
+
+fn numbered(rt: &HostRuntime, numbers: [u8; 3]) -> OrderedMap<Value, Value> {
+    let [a, b, c] = numbers;
+    ordered_map(
+        rt,
+        [
+            (Value::Ubyte(a), Value::Null),
+            (Value::Ubyte(b), Value::Null),
+            (Value::Ubyte(c), Value::Null),
+        ],
+    )
+}
+
+fn maps(rt: &HostRuntime) -> Result<bool, Error> {
+    let alloc = rt.alloc();
+    let mut all = numbered(rt, [3, 1, 2]);
+    let index = all.lookup(alloc)?;
+    let found = is(
+        rt,
+        "lookup",
+        &index.get(&Value::Ubyte(2)),
+        &Some(&Value::Null),
+    ) & is(rt, "no such key", &index.get(&Value::Ubyte(4)), &None)
+        & is(
+            rt,
+            "first",
+            &all.first(),
+            &Some((&Value::Ubyte(3), &Value::Null)),
+        )
+        & is(
+            rt,
+            "last",
+            &all.last(),
+            &Some((&Value::Ubyte(2), &Value::Null)),
+        )
+        & is(rt, "keys", &all.keys().count(), &3)
+        & is(rt, "contains", &all.contains_key(&Value::Ubyte(1)), &true);
+    for value in all.values_mut() {
+        *value = Value::Bool(true);
+    }
+    all.retain(|entry| entry.0 != Value::Ubyte(1));
+    let more = [
+        (Value::Ubyte(2), Value::Null),
+        (Value::Ubyte(5), Value::Null),
+    ];
+    all.extend(Vec::from_array(alloc, more)?.into_iter())?;
+    let expected = ordered_map(
+        rt,
+        [
+            (Value::Ubyte(3), Value::Bool(true)),
+            (Value::Ubyte(2), Value::Null),
+            (Value::Ubyte(5), Value::Null),
+        ],
+    );
+    let mut names = OrderedMap::new(alloc);
+    drop(names.insert(Symbol::try_from_str(alloc, "a")?, 1u8)?);
+    Ok(
+        found
+            & is(rt, "changed map", &all, &expected)
+            & is(rt, "get_str", &names.get_str("a"), &Some(&1))
+            & is(rt, "get_str of another", &names.get_str("b"), &None),
+    )
+}
+
+fn uuids(rt: &HostRuntime) -> bool {
+    let bytes = [
+        0x00, 0x11, 0x22, 0x33, 0x44, 0x55, 0x66, 0x77, 0x88, 0x99, 0xaa, 0xbb, 0xcc, 0xdd, 0xee,
+        0xff,
+    ];
+    let uuid = Uuid::from(bytes);
+    gives(
+        rt,
+        "lower",
+        &Uuid::parse_str("00112233-4455-6677-8899-aabbccddeeff"),
+        &uuid,
+    ) & gives(
+        rt,
+        "upper",
+        &Uuid::parse_str("00112233-4455-6677-8899-AABBCCDDEEFF"),
+        &uuid,
+    ) & is(
+        rt,
+        "short",
+        &Uuid::parse_str("00112233-4455-6677-8899-aabbccddeef").is_err(),
+        &true,
+    ) & is(
+        rt,
+        "hyphen",
+        &Uuid::parse_str("001122334-455-6677-8899-aabbccddeeff").is_err(),
+        &true,
+    ) & is(
+        rt,
+        "digit",
+        &Uuid::parse_str("00112233-4455-6677-8899-aabbccddeefg").is_err(),
+        &true,
+    )
+}
+
+#[test]
+fn maps_are_changed_and_looked_up(rt: HostRuntime) -> Result<(), Fail> {
+    assert!(rt; gives(&rt, "maps", &maps(&rt), &true));
+    assert!(rt; uuids(&rt));
+    Ok(())
+}
