@@ -6,8 +6,8 @@ use crate::array::Array;
 /// is the `None` of an `Option<Multiple<T>>`.
 ///
 /// # Encoding
-/// That of the value, or that of the array. Use `None` and no empty array, which means the same but
-/// has no constructor, so that Qpid Proton does not read it.
+/// That of the value, or that of the array. `Many` without values is null, as `None` is: an empty
+/// array means the same, but has no constructor, so that Qpid Proton does not read it.
 ///
 /// # Example
 /// One symbol is encoded as `a30161`, an array of two as

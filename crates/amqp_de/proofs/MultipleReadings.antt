@@ -37,7 +37,7 @@ module _ {T : Type 0} (R : Tree → T → Type 0) (image : T → Tree) (P : T �
       same : is_array_tree t ≡ true → ((x : Array T) → AllByRecursion P (array_items x) → t ≡ multiple_image image (Many x) → AllZip S (array_items xs) (array_items x))
           → (x : Multiple T) → RestorableMultiple image P x → t ≡ multiple_image image x → SameMultiple S (Many xs) x
       same is law (One x) p e = absurd (true≢false (sym is ∙ ap is_array_tree e ∙ p.0))
-      same is law (Many x) p e = law x p e
+      same is law (Many x) p e = law x p.1 e
 
   pub one_prefix : (depth c : ℕ) (s rest : List ℕ) (y : T) → (c ≡ 224 → ⊥) → (c ≡ 240 → ⊥)
       → ReadsPrefix (Reading R image P S) depth (c ∷ s) rest y → ReadsPrefix ReadingMultiple depth (c ∷ s) rest (One y)

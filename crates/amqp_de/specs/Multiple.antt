@@ -1,6 +1,6 @@
 -- The trees that fields with several values are read from (AMQP 1.0 part 1, section 1.4).
 use Rattle.std.specs.List.{AllZip, AllByRecursion}
-use Rattle.std.specs.Prelude.{◌≡◌, Bool, map, true, false}
+use Rattle.std.specs.Prelude.{◌≡◌, ◌==◌, Bool, map, true, false, length}
 use Rattle.amqp_data.specs.Items.{array_items}
 use Rattle.amqp_data.specs.declared.multiple.Multiple.{Multiple}
 use Rattle.amqp_data.specs.declared.multiple.Multiple.TheVariants.{One, Many}
@@ -22,10 +22,11 @@ abbrev pub multiple_image : {T : Type 0} → (T → Tree) → Multiple T → Tre
 multiple_image f (One x) = f x
 multiple_image f (Many xs) = array (trees_of (map f (array_items xs)))
 
--- One value whose image is an array is not restorable, because an array is read as many values.
+-- One value whose image is an array is not restorable, because an array is read as many values; nor
+-- are no values, which are written as null.
 abbrev pub RestorableMultiple : {T : Type 0} → (T → Tree) → (T → Type 0) → Multiple T → Type 0
 RestorableMultiple f P (One x) = (is_array_tree (f x) ≡ false) × P x
-RestorableMultiple f P (Many xs) = AllByRecursion P (array_items xs)
+RestorableMultiple f P (Many xs) = ((length (array_items xs) == 0) ≡ false) × AllByRecursion P (array_items xs)
 
 -- Two values with the same contents, or two arrays of such values.
 abbrev pub SameMultiple : {T : Type 0} → (T → T → Type 0) → Multiple T → Multiple T → Type 0

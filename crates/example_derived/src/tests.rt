@@ -164,6 +164,8 @@ fn several_values_and_defaults(rt: HostRuntime) -> Result<(), Fail> {
             both
         )?
     );
+    let no_symbols = b"\x00\x53\x19\xc0\x07\x02\xe0\x01\x00\x60\xff\xff";
+    assert!(rt; gives::<Limits>(a, no_symbols, absent)?);
     assert!(rt; gives::<Limits>(a, b"\x00\x53\x19\x45", absent)?);
     assert!(rt; gives::<Limits>(a, b"\x00\x53\x19\xc0\x03\x02\x40\x40", absent)?);
     assert!(rt; gives_at_once::<Limits>(a, b"\x00\x53\x19\x45", absent)?);

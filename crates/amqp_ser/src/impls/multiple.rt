@@ -12,7 +12,12 @@ impl<T: Serialize> Serialize for Multiple<T> {
     fn serialize<S: Serializer>(&self, serializer: &mut S) -> Result<S::Ok, S::Error> {
         match self {
             Multiple::One(value) => value.serialize(serializer),
-            Multiple::Many(values) => values.serialize(serializer),
+            Multiple::Many(values) => {
+                if values.as_inner().as_slice().is_empty() {
+                    return ().serialize(serializer);
+                }
+                values.serialize(serializer)
+            }
         }
     }
 }
