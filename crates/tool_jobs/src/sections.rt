@@ -43,7 +43,7 @@ use serde_amqp::derive::{
 type HeaderFields = Optional<bool, Optional<u8, Optional<u32, Optional<bool, Optional<u32, ()>>>>>;
 
 impl Record for Header {
-    ghost use Rattle.amqp_de.specs.Parts.{◌▸◌};
+    ghost use Rattle.serde_amqp.specs.Derive.{◌▸◌};
 
     type Values = <HeaderFields as FieldSeeds>::Values;
 
@@ -52,8 +52,7 @@ impl Record for Header {
 
 impl Deserialize for Header {
     ghost use Rattle.std.specs.Prelude.{codes};
-    ghost use Rattle.amqp_ser.specs.Tree.{code, described};
-    ghost use Rattle.amqp_de.specs.Fields.{OnDescribed, OnFields, ReadsOptional, NoMoreFields};
+    ghost use Rattle.serde_amqp.specs.Derive.{code, described, OnDescribed, OnFields, ReadsOptional, NoMoreFields};
 
     ghost reads = { λ t x. OnDescribed (code 0x70) (OnFields (
         ReadsOptional (codes "durable") ⟦<bool as Deserialize>⟧.reads x.durable (
@@ -173,7 +172,7 @@ type PropertiesFields = Optional<
 >;
 
 impl Record for Properties {
-    ghost use Rattle.amqp_de.specs.Parts.{◌▸◌};
+    ghost use Rattle.serde_amqp.specs.Derive.{◌▸◌};
 
     type Values = <PropertiesFields as FieldSeeds>::Values;
 
@@ -182,8 +181,7 @@ impl Record for Properties {
 
 impl Deserialize for Properties {
     ghost use Rattle.std.specs.Prelude.{codes};
-    ghost use Rattle.amqp_ser.specs.Tree.{code, described};
-    ghost use Rattle.amqp_de.specs.Fields.{OnDescribed, OnFields, ReadsOptional, NoMoreFields};
+    ghost use Rattle.serde_amqp.specs.Derive.{code, described, OnDescribed, OnFields, ReadsOptional, NoMoreFields};
 
     ghost reads = { λ t x. OnDescribed (code 0x73) (OnFields (
         ReadsOptional (codes "message-id") ⟦<Value as Deserialize>⟧.reads x.message_id (
