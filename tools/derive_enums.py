@@ -167,7 +167,7 @@ def index(t):
             f = v.fields[0]
             word = f'optional {WORDS.get(f.inner) or member(f.inner, "Serialize", "tree")}' if f.optional else \
                 WORDS.get(f.type) or member(f.type, "Serialize", "tree")
-            return f"tree_of_parts (kind.NewtypeVariant {at}) ({word} v0 ∷ [])"
+            return f"tree_of_parts (NewtypeVariant {at}) ({word} v0 ∷ [])"
         return f"variant_of {at} ({list_of(field_trees(v.fields, held(v), False))})"
 
     arms = [(" ".join([v.name, *held(v)]), tree(at, v)) for at, v in enumerate(t.variants)]

@@ -12,27 +12,16 @@ WORDS = {
 # where the definitions are that a ghost member may name
 PLACES = (
     ("std.specs.Prelude", "◌≡◌ Some [] ◌∷◌ List Option Bool ℕ true false codes string_bytes"),
-    ("amqp_data.specs.Text", "symbol_text"),
-    ("amqp_data.specs.Items", "byte_buf_bytes"),
-    ("amqp_data.specs.Fixed", "f32_bits f64_bits dec32_bytes dec64_bytes dec128_bytes milliseconds_of uuid_bytes"),
-    ("amqp_ser.specs.Carried", "optional"),
-    ("amqp_ser.specs.Composites", "as_described"),
-    ("amqp_ser.specs.Compounds", "tree_of_parts"),
-    ("amqp_ser.specs.Tree", "Tree Scalar code name described scalar list bool ubyte ushort uint ulong byte short int long "
-     "char float double decimal32 decimal64 decimal128 timestamp uuid binary string symbol"),
-    ("amqp_ser.specs.Words", "basic_composite short_composite list_composite short_list_of list_of short_map_of map_of "
-     "required_value optional_value variant_of " + " ".join(sorted(WORDS.values()))),
-    ("amqp_de.specs.Fields", "OnDescribed OnFields OnNamed ReadsRequired ReadsOptional NoMoreFields"),
-    ("amqp_de.specs.Composites", "OnComposite OnAlternatives"),
-    ("amqp_de.specs.Defaults", "ReadsDefaulted value_or"),
-    ("amqp_de.specs.Enums", "OnEnum IsUnitVariant IsDataVariant IsNoVariant"),
-    ("amqp_de.specs.Parts", "◌▸◌"),
-    ("amqp_de.specs.Present", "short_list short_map"),
-    ("amqp_de.specs.Reads", "Always"),
-    ("amqp_de.specs.declared.enums.variants.Either.TheVariants", "This Other"),
+    ("serde_amqp.specs.Derive",
+     "symbol_text byte_buf_bytes f32_bits f64_bits dec32_bytes dec64_bytes dec128_bytes milliseconds_of uuid_bytes optional "
+     "as_described tree_of_parts Tree Scalar code name described scalar list bool ubyte ushort uint ulong byte short int long "
+     "char float double decimal32 decimal64 decimal128 timestamp uuid binary string symbol basic_composite short_composite "
+     "list_composite short_list_of list_of short_map_of map_of required_value optional_value variant_of of_binary of_bool "
+     "of_char of_dec128 of_dec32 of_dec64 of_f32 of_f64 of_i16 of_i32 of_i64 of_i8 of_string of_symbol of_timestamp of_u16 "
+     "of_u32 of_u64 of_u8 of_uuid OnDescribed OnFields OnNamed ReadsRequired ReadsOptional NoMoreFields OnComposite "
+     "OnAlternatives ReadsDefaulted value_or OnEnum IsUnitVariant IsDataVariant IsNoVariant ◌▸◌ short_list short_map Always "
+     "This Other NewtypeVariant"),
 )
-# definitions whose module is named
-MODULES = (("kind.", "Rattle.amqp_ser.specs.declared.kind.CompoundKind.TheVariants as kind"),)
 
 
 def names_in(terms, names):
@@ -47,7 +36,7 @@ def uses(terms):
     """The lines that import what the terms name."""
     lines = [f"    ghost use Rattle.{place}.{{{', '.join(found)}}};\n"
              for place, names in PLACES if (found := names_in(terms, names))]
-    return "".join(lines + [f"    ghost use {module};\n" for word, module in MODULES if word in terms])
+    return "".join(lines)
 
 
 def ghosts(terms, more=""):

@@ -44,8 +44,7 @@ use serde_amqp::derive::{
 };
 
 impl Serialize for DeliveryAnnotations {
-    ghost use Rattle.amqp_ser.specs.Tree.{code};
-    ghost use Rattle.amqp_ser.specs.Words.{basic_composite};
+    ghost use Rattle.serde_amqp.specs.Derive.{code, basic_composite};
 
     ghost tree = { λ x. basic_composite (code 0x71) (⟦<OrderedMap<AnnotationKey, Value> as Serialize>⟧.tree x.0) };
 
@@ -109,8 +108,7 @@ impl Composite for DeliveryAnnotations {
 
 impl Deserialize for DeliveryAnnotations {
     ghost use Rattle.std.specs.Prelude.{codes};
-    ghost use Rattle.amqp_ser.specs.Tree.{code, described};
-    ghost use Rattle.amqp_de.specs.Composites.{OnComposite};
+    ghost use Rattle.serde_amqp.specs.Derive.{code, described, OnComposite};
 
     ghost reads = { λ t x. OnComposite 0x71 (codes "amqp:delivery-annotations:map") (λ u. ⟦<DeliveryAnnotations as Composite>⟧.reads u x) t };
 
@@ -151,8 +149,7 @@ impl RoundTrip for DeliveryAnnotations {
 }
 
 impl Serialize for MessageAnnotations {
-    ghost use Rattle.amqp_ser.specs.Tree.{code};
-    ghost use Rattle.amqp_ser.specs.Words.{basic_composite};
+    ghost use Rattle.serde_amqp.specs.Derive.{code, basic_composite};
 
     ghost tree = { λ x. basic_composite (code 0x72) (⟦<OrderedMap<AnnotationKey, Value> as Serialize>⟧.tree x.0) };
 
@@ -216,8 +213,7 @@ impl Composite for MessageAnnotations {
 
 impl Deserialize for MessageAnnotations {
     ghost use Rattle.std.specs.Prelude.{codes};
-    ghost use Rattle.amqp_ser.specs.Tree.{code, described};
-    ghost use Rattle.amqp_de.specs.Composites.{OnComposite};
+    ghost use Rattle.serde_amqp.specs.Derive.{code, described, OnComposite};
 
     ghost reads = { λ t x. OnComposite 0x72 (codes "amqp:message-annotations:map") (λ u. ⟦<MessageAnnotations as Composite>⟧.reads u x) t };
 
@@ -258,8 +254,7 @@ impl RoundTrip for MessageAnnotations {
 }
 
 impl Serialize for ApplicationProperties {
-    ghost use Rattle.amqp_ser.specs.Tree.{code};
-    ghost use Rattle.amqp_ser.specs.Words.{basic_composite};
+    ghost use Rattle.serde_amqp.specs.Derive.{code, basic_composite};
 
     ghost tree = { λ x. basic_composite (code 0x74) (⟦<OrderedMap<String, Value> as Serialize>⟧.tree x.0) };
 
@@ -325,8 +320,7 @@ impl Composite for ApplicationProperties {
 
 impl Deserialize for ApplicationProperties {
     ghost use Rattle.std.specs.Prelude.{codes};
-    ghost use Rattle.amqp_ser.specs.Tree.{code, described};
-    ghost use Rattle.amqp_de.specs.Composites.{OnComposite};
+    ghost use Rattle.serde_amqp.specs.Derive.{code, described, OnComposite};
 
     ghost reads = { λ t x. OnComposite 0x74 (codes "amqp:application-properties:map") (λ u. ⟦<ApplicationProperties as Composite>⟧.reads u x) t };
 
@@ -367,8 +361,7 @@ impl RoundTrip for ApplicationProperties {
 }
 
 impl Serialize for Footer {
-    ghost use Rattle.amqp_ser.specs.Tree.{code};
-    ghost use Rattle.amqp_ser.specs.Words.{basic_composite};
+    ghost use Rattle.serde_amqp.specs.Derive.{code, basic_composite};
 
     ghost tree = { λ x. basic_composite (code 0x78) (⟦<OrderedMap<AnnotationKey, Value> as Serialize>⟧.tree x.0) };
 
@@ -429,8 +422,7 @@ impl Composite for Footer {
 
 impl Deserialize for Footer {
     ghost use Rattle.std.specs.Prelude.{codes};
-    ghost use Rattle.amqp_ser.specs.Tree.{code, described};
-    ghost use Rattle.amqp_de.specs.Composites.{OnComposite};
+    ghost use Rattle.serde_amqp.specs.Derive.{code, described, OnComposite};
 
     ghost reads = { λ t x. OnComposite 0x78 (codes "amqp:footer:map") (λ u. ⟦<Footer as Composite>⟧.reads u x) t };
 

@@ -35,8 +35,7 @@ use serde_amqp::derive::{
 };
 
 impl Serialize for Data {
-    ghost use Rattle.amqp_ser.specs.Tree.{code};
-    ghost use Rattle.amqp_ser.specs.Words.{basic_composite, of_binary};
+    ghost use Rattle.serde_amqp.specs.Derive.{code, basic_composite, of_binary};
 
     ghost tree = { λ x. basic_composite (code 0x75) (of_binary x.0) };
 
@@ -93,8 +92,7 @@ impl Composite for Data {
 
 impl Deserialize for Data {
     ghost use Rattle.std.specs.Prelude.{codes};
-    ghost use Rattle.amqp_ser.specs.Tree.{code, described};
-    ghost use Rattle.amqp_de.specs.Composites.{OnComposite};
+    ghost use Rattle.serde_amqp.specs.Derive.{code, described, OnComposite};
 
     ghost reads = { λ t x. OnComposite 0x75 (codes "amqp:data:binary") (λ u. ⟦<Data as Composite>⟧.reads u x) t };
 
@@ -132,8 +130,7 @@ impl RoundTrip for Data {
 }
 
 impl Serialize for AmqpSequence {
-    ghost use Rattle.amqp_ser.specs.Tree.{code};
-    ghost use Rattle.amqp_ser.specs.Words.{basic_composite};
+    ghost use Rattle.serde_amqp.specs.Derive.{code, basic_composite};
 
     ghost tree = { λ x. basic_composite (code 0x76) (⟦<Vec<Value> as Serialize>⟧.tree x.0) };
 
@@ -197,8 +194,7 @@ impl Composite for AmqpSequence {
 
 impl Deserialize for AmqpSequence {
     ghost use Rattle.std.specs.Prelude.{codes};
-    ghost use Rattle.amqp_ser.specs.Tree.{code, described};
-    ghost use Rattle.amqp_de.specs.Composites.{OnComposite};
+    ghost use Rattle.serde_amqp.specs.Derive.{code, described, OnComposite};
 
     ghost reads = { λ t x. OnComposite 0x76 (codes "amqp:amqp-sequence:list") (λ u. ⟦<AmqpSequence as Composite>⟧.reads u x) t };
 
@@ -239,8 +235,7 @@ impl RoundTrip for AmqpSequence {
 }
 
 impl Serialize for AmqpValue {
-    ghost use Rattle.amqp_ser.specs.Tree.{code};
-    ghost use Rattle.amqp_ser.specs.Words.{basic_composite};
+    ghost use Rattle.serde_amqp.specs.Derive.{code, basic_composite};
 
     ghost tree = { λ x. basic_composite (code 0x77) (⟦<Value as Serialize>⟧.tree x.0) };
 
@@ -297,8 +292,7 @@ impl Composite for AmqpValue {
 
 impl Deserialize for AmqpValue {
     ghost use Rattle.std.specs.Prelude.{codes};
-    ghost use Rattle.amqp_ser.specs.Tree.{code, described};
-    ghost use Rattle.amqp_de.specs.Composites.{OnComposite};
+    ghost use Rattle.serde_amqp.specs.Derive.{code, described, OnComposite};
 
     ghost reads = { λ t x. OnComposite 0x77 (codes "amqp:amqp-value:*") (λ u. ⟦<AmqpValue as Composite>⟧.reads u x) t };
 

@@ -135,7 +135,7 @@ impl AmqpCondition {
 
 impl Serialize for AmqpCondition {
     ghost use Rattle.std.specs.Prelude.{Some, List, ℕ, codes};
-    ghost use Rattle.amqp_ser.specs.Tree.{scalar, symbol};
+    ghost use Rattle.serde_amqp.specs.Derive.{scalar, symbol};
     ghost use Rattle.amqp_types.specs.declared.conditions.AmqpCondition.TheVariants as variant;
 
     ghost tree = { λ x. Some (scalar (symbol (elim x as (λ _. List ℕ) [ variant.InternalError ↦ codes "amqp:internal-error" | variant.NotFound ↦ codes "amqp:not-found" | variant.UnauthorizedAccess ↦ codes "amqp:unauthorized-access" | variant.DecodeError ↦ codes "amqp:decode-error" | variant.ResourceLimitExceeded ↦ codes "amqp:resource-limit-exceeded" | variant.NotAllowed ↦ codes "amqp:not-allowed" | variant.InvalidField ↦ codes "amqp:invalid-field" | variant.NotImplemented ↦ codes "amqp:not-implemented" | variant.ResourceLocked ↦ codes "amqp:resource-locked" | variant.PreconditionFailed ↦ codes "amqp:precondition-failed" | variant.ResourceDeleted ↦ codes "amqp:resource-deleted" | variant.IllegalState ↦ codes "amqp:illegal-state" | variant.FrameSizeTooSmall ↦ codes "amqp:frame-size-too-small" ]))) };
@@ -147,8 +147,7 @@ impl Serialize for AmqpCondition {
 
 impl Deserialize for AmqpCondition {
     ghost use Rattle.std.specs.Prelude.{◌≡◌, List, ℕ, codes};
-    ghost use Rattle.amqp_ser.specs.Tree.{scalar, symbol};
-    ghost use Rattle.amqp_de.specs.Reads.{Always};
+    ghost use Rattle.serde_amqp.specs.Derive.{scalar, symbol, Always};
     ghost use Rattle.amqp_types.specs.declared.conditions.AmqpCondition.TheVariants as variant;
 
     ghost reads = { λ t x. t ≡ scalar (symbol (elim x as (λ _. List ℕ) [ variant.InternalError ↦ codes "amqp:internal-error" | variant.NotFound ↦ codes "amqp:not-found" | variant.UnauthorizedAccess ↦ codes "amqp:unauthorized-access" | variant.DecodeError ↦ codes "amqp:decode-error" | variant.ResourceLimitExceeded ↦ codes "amqp:resource-limit-exceeded" | variant.NotAllowed ↦ codes "amqp:not-allowed" | variant.InvalidField ↦ codes "amqp:invalid-field" | variant.NotImplemented ↦ codes "amqp:not-implemented" | variant.ResourceLocked ↦ codes "amqp:resource-locked" | variant.PreconditionFailed ↦ codes "amqp:precondition-failed" | variant.ResourceDeleted ↦ codes "amqp:resource-deleted" | variant.IllegalState ↦ codes "amqp:illegal-state" | variant.FrameSizeTooSmall ↦ codes "amqp:frame-size-too-small" ])) };
@@ -284,7 +283,7 @@ impl ConnectionCondition {
 
 impl Serialize for ConnectionCondition {
     ghost use Rattle.std.specs.Prelude.{Some, List, ℕ, codes};
-    ghost use Rattle.amqp_ser.specs.Tree.{scalar, symbol};
+    ghost use Rattle.serde_amqp.specs.Derive.{scalar, symbol};
     ghost use Rattle.amqp_types.specs.declared.conditions.ConnectionCondition.TheVariants as variant;
 
     ghost tree = { λ x. Some (scalar (symbol (elim x as (λ _. List ℕ) [ variant.ConnectionForced ↦ codes "amqp:connection:forced" | variant.FramingError ↦ codes "amqp:connection:framing-error" | variant.Redirect ↦ codes "amqp:connection:redirect" ]))) };
@@ -296,8 +295,7 @@ impl Serialize for ConnectionCondition {
 
 impl Deserialize for ConnectionCondition {
     ghost use Rattle.std.specs.Prelude.{◌≡◌, List, ℕ, codes};
-    ghost use Rattle.amqp_ser.specs.Tree.{scalar, symbol};
-    ghost use Rattle.amqp_de.specs.Reads.{Always};
+    ghost use Rattle.serde_amqp.specs.Derive.{scalar, symbol, Always};
     ghost use Rattle.amqp_types.specs.declared.conditions.ConnectionCondition.TheVariants as variant;
 
     ghost reads = { λ t x. t ≡ scalar (symbol (elim x as (λ _. List ℕ) [ variant.ConnectionForced ↦ codes "amqp:connection:forced" | variant.FramingError ↦ codes "amqp:connection:framing-error" | variant.Redirect ↦ codes "amqp:connection:redirect" ])) };
@@ -374,7 +372,7 @@ impl SessionCondition {
 
 impl Serialize for SessionCondition {
     ghost use Rattle.std.specs.Prelude.{Some, List, ℕ, codes};
-    ghost use Rattle.amqp_ser.specs.Tree.{scalar, symbol};
+    ghost use Rattle.serde_amqp.specs.Derive.{scalar, symbol};
     ghost use Rattle.amqp_types.specs.declared.conditions.SessionCondition.TheVariants as variant;
 
     ghost tree = { λ x. Some (scalar (symbol (elim x as (λ _. List ℕ) [ variant.WindowViolation ↦ codes "amqp:session:window-violation" | variant.ErrantLink ↦ codes "amqp:session:errant-link" | variant.HandleInUse ↦ codes "amqp:session:handle-in-use" | variant.UnattachedHandle ↦ codes "amqp:session:unattached-handle" ]))) };
@@ -386,8 +384,7 @@ impl Serialize for SessionCondition {
 
 impl Deserialize for SessionCondition {
     ghost use Rattle.std.specs.Prelude.{◌≡◌, List, ℕ, codes};
-    ghost use Rattle.amqp_ser.specs.Tree.{scalar, symbol};
-    ghost use Rattle.amqp_de.specs.Reads.{Always};
+    ghost use Rattle.serde_amqp.specs.Derive.{scalar, symbol, Always};
     ghost use Rattle.amqp_types.specs.declared.conditions.SessionCondition.TheVariants as variant;
 
     ghost reads = { λ t x. t ≡ scalar (symbol (elim x as (λ _. List ℕ) [ variant.WindowViolation ↦ codes "amqp:session:window-violation" | variant.ErrantLink ↦ codes "amqp:session:errant-link" | variant.HandleInUse ↦ codes "amqp:session:handle-in-use" | variant.UnattachedHandle ↦ codes "amqp:session:unattached-handle" ])) };
@@ -471,7 +468,7 @@ impl LinkCondition {
 
 impl Serialize for LinkCondition {
     ghost use Rattle.std.specs.Prelude.{Some, List, ℕ, codes};
-    ghost use Rattle.amqp_ser.specs.Tree.{scalar, symbol};
+    ghost use Rattle.serde_amqp.specs.Derive.{scalar, symbol};
     ghost use Rattle.amqp_types.specs.declared.conditions.LinkCondition.TheVariants as variant;
 
     ghost tree = { λ x. Some (scalar (symbol (elim x as (λ _. List ℕ) [ variant.DetachForced ↦ codes "amqp:link:detach-forced" | variant.TransferLimitExceeded ↦ codes "amqp:link:transfer-limit-exceeded" | variant.MessageSizeExceeded ↦ codes "amqp:link:message-size-exceeded" | variant.Redirect ↦ codes "amqp:link:redirect" | variant.Stolen ↦ codes "amqp:link:stolen" ]))) };
@@ -483,8 +480,7 @@ impl Serialize for LinkCondition {
 
 impl Deserialize for LinkCondition {
     ghost use Rattle.std.specs.Prelude.{◌≡◌, List, ℕ, codes};
-    ghost use Rattle.amqp_ser.specs.Tree.{scalar, symbol};
-    ghost use Rattle.amqp_de.specs.Reads.{Always};
+    ghost use Rattle.serde_amqp.specs.Derive.{scalar, symbol, Always};
     ghost use Rattle.amqp_types.specs.declared.conditions.LinkCondition.TheVariants as variant;
 
     ghost reads = { λ t x. t ≡ scalar (symbol (elim x as (λ _. List ℕ) [ variant.DetachForced ↦ codes "amqp:link:detach-forced" | variant.TransferLimitExceeded ↦ codes "amqp:link:transfer-limit-exceeded" | variant.MessageSizeExceeded ↦ codes "amqp:link:message-size-exceeded" | variant.Redirect ↦ codes "amqp:link:redirect" | variant.Stolen ↦ codes "amqp:link:stolen" ])) };
@@ -572,7 +568,7 @@ impl TransactionCondition {
 
 impl Serialize for TransactionCondition {
     ghost use Rattle.std.specs.Prelude.{Some, List, ℕ, codes};
-    ghost use Rattle.amqp_ser.specs.Tree.{scalar, symbol};
+    ghost use Rattle.serde_amqp.specs.Derive.{scalar, symbol};
     ghost use Rattle.amqp_types.specs.declared.conditions.TransactionCondition.TheVariants as variant;
 
     ghost tree = { λ x. Some (scalar (symbol (elim x as (λ _. List ℕ) [ variant.UnknownId ↦ codes "amqp:transaction:unknown-id" | variant.TransactionRollback ↦ codes "amqp:transaction:rollback" | variant.TransactionTimeout ↦ codes "amqp:transaction:timeout" ]))) };
@@ -584,8 +580,7 @@ impl Serialize for TransactionCondition {
 
 impl Deserialize for TransactionCondition {
     ghost use Rattle.std.specs.Prelude.{◌≡◌, List, ℕ, codes};
-    ghost use Rattle.amqp_ser.specs.Tree.{scalar, symbol};
-    ghost use Rattle.amqp_de.specs.Reads.{Always};
+    ghost use Rattle.serde_amqp.specs.Derive.{scalar, symbol, Always};
     ghost use Rattle.amqp_types.specs.declared.conditions.TransactionCondition.TheVariants as variant;
 
     ghost reads = { λ t x. t ≡ scalar (symbol (elim x as (λ _. List ℕ) [ variant.UnknownId ↦ codes "amqp:transaction:unknown-id" | variant.TransactionRollback ↦ codes "amqp:transaction:rollback" | variant.TransactionTimeout ↦ codes "amqp:transaction:timeout" ])) };

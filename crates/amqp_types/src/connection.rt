@@ -45,8 +45,7 @@ use serde_amqp::derive::{
 
 impl Serialize for Open {
     ghost use Rattle.std.specs.Prelude.{[], ◌∷◌};
-    ghost use Rattle.amqp_ser.specs.Tree.{code};
-    ghost use Rattle.amqp_ser.specs.Words.{short_composite, required_value, optional_value, of_string, of_u16, of_u32};
+    ghost use Rattle.serde_amqp.specs.Derive.{code, short_composite, required_value, optional_value, of_string, of_u16, of_u32};
 
     ghost tree = { λ x. short_composite (code 0x10) (
         required_value (of_string x.container_id)
@@ -108,7 +107,7 @@ type OpenFields = Required<
 >;
 
 impl Record for Open {
-    ghost use Rattle.amqp_de.specs.Parts.{◌▸◌};
+    ghost use Rattle.serde_amqp.specs.Derive.{◌▸◌};
 
     type Values = <OpenFields as FieldSeeds>::Values;
 
@@ -117,7 +116,7 @@ impl Record for Open {
 
 impl Composite for Open {
     ghost use Rattle.std.specs.Prelude.{codes};
-    ghost use Rattle.amqp_de.specs.Fields.{OnFields, ReadsRequired, ReadsOptional, NoMoreFields};
+    ghost use Rattle.serde_amqp.specs.Derive.{OnFields, ReadsRequired, ReadsOptional, NoMoreFields};
 
     ghost descriptor_code = { 0x10 };
 
@@ -277,8 +276,7 @@ impl Composite for Open {
 
 impl Deserialize for Open {
     ghost use Rattle.std.specs.Prelude.{codes};
-    ghost use Rattle.amqp_ser.specs.Tree.{code, described};
-    ghost use Rattle.amqp_de.specs.Composites.{OnComposite};
+    ghost use Rattle.serde_amqp.specs.Derive.{code, described, OnComposite};
 
     ghost reads = { λ t x. OnComposite 0x10 (codes "amqp:open:list") (λ u. ⟦<Open as Composite>⟧.reads u x) t };
 
@@ -317,7 +315,7 @@ impl RoundTrip for Open {
 
 impl Open {
     ghost use Rattle.std.specs.Prelude.{◌≡◌};
-    ghost use Rattle.amqp_de.specs.Defaults.{value_or};
+    ghost use Rattle.serde_amqp.specs.Derive.{value_or};
 
     /// Returns `max_frame_size`, or `4294967295` if it is absent.
     pub fn max_frame_size_or_default(&self) -> u32

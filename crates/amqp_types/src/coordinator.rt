@@ -57,8 +57,7 @@ use serde_amqp::derive::{
 
 impl Serialize for Coordinator {
     ghost use Rattle.std.specs.Prelude.{[], ◌∷◌};
-    ghost use Rattle.amqp_ser.specs.Tree.{code};
-    ghost use Rattle.amqp_ser.specs.Words.{short_composite, optional_value};
+    ghost use Rattle.serde_amqp.specs.Derive.{code, short_composite, optional_value};
 
     ghost tree = { λ x. short_composite (code 0x30) (
         optional_value ⟦<Multiple<Symbol> as Serialize>⟧.tree x.capabilities
@@ -78,7 +77,7 @@ impl Serialize for Coordinator {
 type CoordinatorFields = Optional<Multiple<Symbol>, ()>;
 
 impl Record for Coordinator {
-    ghost use Rattle.amqp_de.specs.Parts.{◌▸◌};
+    ghost use Rattle.serde_amqp.specs.Derive.{◌▸◌};
 
     type Values = <CoordinatorFields as FieldSeeds>::Values;
 
@@ -87,7 +86,7 @@ impl Record for Coordinator {
 
 impl Composite for Coordinator {
     ghost use Rattle.std.specs.Prelude.{codes};
-    ghost use Rattle.amqp_de.specs.Fields.{OnFields, ReadsOptional, NoMoreFields};
+    ghost use Rattle.serde_amqp.specs.Derive.{OnFields, ReadsOptional, NoMoreFields};
 
     ghost descriptor_code = { 0x30 };
 
@@ -136,8 +135,7 @@ impl Composite for Coordinator {
 
 impl Deserialize for Coordinator {
     ghost use Rattle.std.specs.Prelude.{codes};
-    ghost use Rattle.amqp_ser.specs.Tree.{code, described};
-    ghost use Rattle.amqp_de.specs.Composites.{OnComposite};
+    ghost use Rattle.serde_amqp.specs.Derive.{code, described, OnComposite};
 
     ghost reads = { λ t x. OnComposite 0x30 (codes "amqp:coordinator:list") (λ u. ⟦<Coordinator as Composite>⟧.reads u x) t };
 
@@ -197,7 +195,7 @@ impl TxnCapability {
 
 impl Serialize for TxnCapability {
     ghost use Rattle.std.specs.Prelude.{Some, List, ℕ, codes};
-    ghost use Rattle.amqp_ser.specs.Tree.{scalar, symbol};
+    ghost use Rattle.serde_amqp.specs.Derive.{scalar, symbol};
     ghost use Rattle.amqp_types.specs.declared.coordinator.TxnCapability.TheVariants as variant;
 
     ghost tree = { λ x. Some (scalar (symbol (elim x as (λ _. List ℕ) [ variant.LocalTransactions ↦ codes "amqp:local-transactions" | variant.DistributedTransactions ↦ codes "amqp:distributed-transactions" | variant.PromotableTransactions ↦ codes "amqp:promotable-transactions" | variant.MultiTxnsPerSsn ↦ codes "amqp:multi-txns-per-ssn" | variant.MultiSsnsPerTxn ↦ codes "amqp:multi-ssns-per-txn" ]))) };
@@ -209,8 +207,7 @@ impl Serialize for TxnCapability {
 
 impl Deserialize for TxnCapability {
     ghost use Rattle.std.specs.Prelude.{◌≡◌, List, ℕ, codes};
-    ghost use Rattle.amqp_ser.specs.Tree.{scalar, symbol};
-    ghost use Rattle.amqp_de.specs.Reads.{Always};
+    ghost use Rattle.serde_amqp.specs.Derive.{scalar, symbol, Always};
     ghost use Rattle.amqp_types.specs.declared.coordinator.TxnCapability.TheVariants as variant;
 
     ghost reads = { λ t x. t ≡ scalar (symbol (elim x as (λ _. List ℕ) [ variant.LocalTransactions ↦ codes "amqp:local-transactions" | variant.DistributedTransactions ↦ codes "amqp:distributed-transactions" | variant.PromotableTransactions ↦ codes "amqp:promotable-transactions" | variant.MultiTxnsPerSsn ↦ codes "amqp:multi-txns-per-ssn" | variant.MultiSsnsPerTxn ↦ codes "amqp:multi-ssns-per-txn" ])) };
@@ -281,7 +278,7 @@ impl RoundTrip for TxnCapability {
 }
 
 impl Record for AnyTarget {
-    ghost use Rattle.amqp_de.specs.declared.enums.variants.Either.TheVariants.{This, Other};
+    ghost use Rattle.serde_amqp.specs.Derive.{This, Other};
     ghost use Rattle.amqp_types.specs.declared.coordinator.AnyTarget.TheVariants as variant;
 
     type Values = Either<Target, Either<Coordinator, Never>>;
@@ -301,8 +298,7 @@ impl Serialize for AnyTarget {
 }
 
 impl Deserialize for AnyTarget {
-    ghost use Rattle.amqp_ser.specs.Tree.{code, described};
-    ghost use Rattle.amqp_de.specs.Composites.{OnAlternatives};
+    ghost use Rattle.serde_amqp.specs.Derive.{code, described, OnAlternatives};
 
     ghost reads = { λ t x. OnAlternatives ⟦<Either<Target, Either<Coordinator, Never>> as Alternatives>⟧.reads t (⟦<AnyTarget as Record>⟧.parts x) };
 

@@ -69,8 +69,7 @@ use serde_amqp::derive::{
 
 impl Serialize for Received {
     ghost use Rattle.std.specs.Prelude.{[], ◌∷◌};
-    ghost use Rattle.amqp_ser.specs.Tree.{code};
-    ghost use Rattle.amqp_ser.specs.Words.{short_composite, required_value, of_u32, of_u64};
+    ghost use Rattle.serde_amqp.specs.Derive.{code, short_composite, required_value, of_u32, of_u64};
 
     ghost tree = { λ x. short_composite (code 0x23) (
         required_value (of_u32 x.section_number)
@@ -92,7 +91,7 @@ impl Serialize for Received {
 type ReceivedFields = Required<u32, Required<u64, ()>>;
 
 impl Record for Received {
-    ghost use Rattle.amqp_de.specs.Parts.{◌▸◌};
+    ghost use Rattle.serde_amqp.specs.Derive.{◌▸◌};
 
     type Values = <ReceivedFields as FieldSeeds>::Values;
 
@@ -101,7 +100,7 @@ impl Record for Received {
 
 impl Composite for Received {
     ghost use Rattle.std.specs.Prelude.{codes};
-    ghost use Rattle.amqp_de.specs.Fields.{OnFields, ReadsRequired, NoMoreFields};
+    ghost use Rattle.serde_amqp.specs.Derive.{OnFields, ReadsRequired, NoMoreFields};
 
     ghost descriptor_code = { 0x23 };
 
@@ -169,8 +168,7 @@ impl Composite for Received {
 
 impl Deserialize for Received {
     ghost use Rattle.std.specs.Prelude.{codes};
-    ghost use Rattle.amqp_ser.specs.Tree.{code, described};
-    ghost use Rattle.amqp_de.specs.Composites.{OnComposite};
+    ghost use Rattle.serde_amqp.specs.Derive.{code, described, OnComposite};
 
     ghost reads = { λ t x. OnComposite 0x23 (codes "amqp:received:list") (λ u. ⟦<Received as Composite>⟧.reads u x) t };
 
@@ -209,8 +207,7 @@ impl RoundTrip for Received {
 
 impl Serialize for Accepted {
     ghost use Rattle.std.specs.Prelude.{[]};
-    ghost use Rattle.amqp_ser.specs.Tree.{code};
-    ghost use Rattle.amqp_ser.specs.Words.{short_composite};
+    ghost use Rattle.serde_amqp.specs.Derive.{code, short_composite};
 
     ghost tree = { λ _. short_composite (code 0x24) [] };
 
@@ -230,7 +227,7 @@ impl Record for Accepted {
 
 impl Composite for Accepted {
     ghost use Rattle.std.specs.Prelude.{codes};
-    ghost use Rattle.amqp_de.specs.Fields.{OnFields, NoMoreFields};
+    ghost use Rattle.serde_amqp.specs.Derive.{OnFields, NoMoreFields};
 
     ghost descriptor_code = { 0x24 };
 
@@ -271,8 +268,7 @@ impl Composite for Accepted {
 
 impl Deserialize for Accepted {
     ghost use Rattle.std.specs.Prelude.{codes};
-    ghost use Rattle.amqp_ser.specs.Tree.{code, described};
-    ghost use Rattle.amqp_de.specs.Composites.{OnComposite};
+    ghost use Rattle.serde_amqp.specs.Derive.{code, described, OnComposite};
 
     ghost reads = { λ t x. OnComposite 0x24 (codes "amqp:accepted:list") (λ u. ⟦<Accepted as Composite>⟧.reads u x) t };
 
@@ -311,8 +307,7 @@ impl RoundTrip for Accepted {
 
 impl Serialize for Rejected {
     ghost use Rattle.std.specs.Prelude.{[], ◌∷◌};
-    ghost use Rattle.amqp_ser.specs.Tree.{code};
-    ghost use Rattle.amqp_ser.specs.Words.{short_composite, optional_value};
+    ghost use Rattle.serde_amqp.specs.Derive.{code, short_composite, optional_value};
 
     ghost tree = { λ x. short_composite (code 0x25) (
         optional_value ⟦<AmqpError as Serialize>⟧.tree x.error
@@ -332,7 +327,7 @@ impl Serialize for Rejected {
 type RejectedFields = Optional<AmqpError, ()>;
 
 impl Record for Rejected {
-    ghost use Rattle.amqp_de.specs.Parts.{◌▸◌};
+    ghost use Rattle.serde_amqp.specs.Derive.{◌▸◌};
 
     type Values = <RejectedFields as FieldSeeds>::Values;
 
@@ -341,7 +336,7 @@ impl Record for Rejected {
 
 impl Composite for Rejected {
     ghost use Rattle.std.specs.Prelude.{codes};
-    ghost use Rattle.amqp_de.specs.Fields.{OnFields, ReadsOptional, NoMoreFields};
+    ghost use Rattle.serde_amqp.specs.Derive.{OnFields, ReadsOptional, NoMoreFields};
 
     ghost descriptor_code = { 0x25 };
 
@@ -390,8 +385,7 @@ impl Composite for Rejected {
 
 impl Deserialize for Rejected {
     ghost use Rattle.std.specs.Prelude.{codes};
-    ghost use Rattle.amqp_ser.specs.Tree.{code, described};
-    ghost use Rattle.amqp_de.specs.Composites.{OnComposite};
+    ghost use Rattle.serde_amqp.specs.Derive.{code, described, OnComposite};
 
     ghost reads = { λ t x. OnComposite 0x25 (codes "amqp:rejected:list") (λ u. ⟦<Rejected as Composite>⟧.reads u x) t };
 
@@ -430,8 +424,7 @@ impl RoundTrip for Rejected {
 
 impl Serialize for Released {
     ghost use Rattle.std.specs.Prelude.{[]};
-    ghost use Rattle.amqp_ser.specs.Tree.{code};
-    ghost use Rattle.amqp_ser.specs.Words.{short_composite};
+    ghost use Rattle.serde_amqp.specs.Derive.{code, short_composite};
 
     ghost tree = { λ _. short_composite (code 0x26) [] };
 
@@ -451,7 +444,7 @@ impl Record for Released {
 
 impl Composite for Released {
     ghost use Rattle.std.specs.Prelude.{codes};
-    ghost use Rattle.amqp_de.specs.Fields.{OnFields, NoMoreFields};
+    ghost use Rattle.serde_amqp.specs.Derive.{OnFields, NoMoreFields};
 
     ghost descriptor_code = { 0x26 };
 
@@ -492,8 +485,7 @@ impl Composite for Released {
 
 impl Deserialize for Released {
     ghost use Rattle.std.specs.Prelude.{codes};
-    ghost use Rattle.amqp_ser.specs.Tree.{code, described};
-    ghost use Rattle.amqp_de.specs.Composites.{OnComposite};
+    ghost use Rattle.serde_amqp.specs.Derive.{code, described, OnComposite};
 
     ghost reads = { λ t x. OnComposite 0x26 (codes "amqp:released:list") (λ u. ⟦<Released as Composite>⟧.reads u x) t };
 
@@ -532,8 +524,7 @@ impl RoundTrip for Released {
 
 impl Serialize for Modified {
     ghost use Rattle.std.specs.Prelude.{[], ◌∷◌};
-    ghost use Rattle.amqp_ser.specs.Tree.{code};
-    ghost use Rattle.amqp_ser.specs.Words.{short_composite, optional_value, of_bool};
+    ghost use Rattle.serde_amqp.specs.Derive.{code, short_composite, optional_value, of_bool};
 
     ghost tree = { λ x. short_composite (code 0x27) (
         optional_value of_bool x.delivery_failed
@@ -557,7 +548,7 @@ impl Serialize for Modified {
 type ModifiedFields = Optional<bool, Optional<bool, Optional<OrderedMap<Symbol, Value>, ()>>>;
 
 impl Record for Modified {
-    ghost use Rattle.amqp_de.specs.Parts.{◌▸◌};
+    ghost use Rattle.serde_amqp.specs.Derive.{◌▸◌};
 
     type Values = <ModifiedFields as FieldSeeds>::Values;
 
@@ -566,7 +557,7 @@ impl Record for Modified {
 
 impl Composite for Modified {
     ghost use Rattle.std.specs.Prelude.{codes};
-    ghost use Rattle.amqp_de.specs.Fields.{OnFields, ReadsOptional, NoMoreFields};
+    ghost use Rattle.serde_amqp.specs.Derive.{OnFields, ReadsOptional, NoMoreFields};
 
     ghost descriptor_code = { 0x27 };
 
@@ -647,8 +638,7 @@ impl Composite for Modified {
 
 impl Deserialize for Modified {
     ghost use Rattle.std.specs.Prelude.{codes};
-    ghost use Rattle.amqp_ser.specs.Tree.{code, described};
-    ghost use Rattle.amqp_de.specs.Composites.{OnComposite};
+    ghost use Rattle.serde_amqp.specs.Derive.{code, described, OnComposite};
 
     ghost reads = { λ t x. OnComposite 0x27 (codes "amqp:modified:list") (λ u. ⟦<Modified as Composite>⟧.reads u x) t };
 

@@ -36,8 +36,7 @@ use serde_amqp::derive::{
 
 impl Serialize for Disposition {
     ghost use Rattle.std.specs.Prelude.{[], ◌∷◌};
-    ghost use Rattle.amqp_ser.specs.Tree.{code};
-    ghost use Rattle.amqp_ser.specs.Words.{short_composite, required_value, optional_value, of_bool, of_u32};
+    ghost use Rattle.serde_amqp.specs.Derive.{code, short_composite, required_value, optional_value, of_bool, of_u32};
 
     ghost tree = { λ x. short_composite (code 0x15) (
         required_value (⟦<Role as Serialize>⟧.tree x.role)
@@ -70,7 +69,7 @@ type DispositionFields = Required<
 >;
 
 impl Record for Disposition {
-    ghost use Rattle.amqp_de.specs.Parts.{◌▸◌};
+    ghost use Rattle.serde_amqp.specs.Derive.{◌▸◌};
 
     type Values = <DispositionFields as FieldSeeds>::Values;
 
@@ -79,7 +78,7 @@ impl Record for Disposition {
 
 impl Composite for Disposition {
     ghost use Rattle.std.specs.Prelude.{codes};
-    ghost use Rattle.amqp_de.specs.Fields.{OnFields, ReadsRequired, ReadsOptional, NoMoreFields};
+    ghost use Rattle.serde_amqp.specs.Derive.{OnFields, ReadsRequired, ReadsOptional, NoMoreFields};
 
     ghost descriptor_code = { 0x15 };
 
@@ -171,8 +170,7 @@ impl Composite for Disposition {
 
 impl Deserialize for Disposition {
     ghost use Rattle.std.specs.Prelude.{codes};
-    ghost use Rattle.amqp_ser.specs.Tree.{code, described};
-    ghost use Rattle.amqp_de.specs.Composites.{OnComposite};
+    ghost use Rattle.serde_amqp.specs.Derive.{code, described, OnComposite};
 
     ghost reads = { λ t x. OnComposite 0x15 (codes "amqp:disposition:list") (λ u. ⟦<Disposition as Composite>⟧.reads u x) t };
 
@@ -214,7 +212,7 @@ impl RoundTrip for Disposition {
 
 impl Disposition {
     ghost use Rattle.std.specs.Prelude.{◌≡◌, false};
-    ghost use Rattle.amqp_de.specs.Defaults.{value_or};
+    ghost use Rattle.serde_amqp.specs.Derive.{value_or};
 
     /// Returns `settled`, or `false` if it is absent.
     pub fn settled_or_default(&self) -> bool

@@ -50,8 +50,7 @@ use serde_amqp::derive::{
 
 impl Serialize for Detach {
     ghost use Rattle.std.specs.Prelude.{[], ◌∷◌};
-    ghost use Rattle.amqp_ser.specs.Tree.{code};
-    ghost use Rattle.amqp_ser.specs.Words.{short_composite, required_value, optional_value, of_bool, of_u32};
+    ghost use Rattle.serde_amqp.specs.Derive.{code, short_composite, required_value, optional_value, of_bool, of_u32};
 
     ghost tree = { λ x. short_composite (code 0x16) (
         required_value (of_u32 x.handle)
@@ -75,7 +74,7 @@ impl Serialize for Detach {
 type DetachFields = Required<u32, Optional<bool, Optional<AmqpError, ()>>>;
 
 impl Record for Detach {
-    ghost use Rattle.amqp_de.specs.Parts.{◌▸◌};
+    ghost use Rattle.serde_amqp.specs.Derive.{◌▸◌};
 
     type Values = <DetachFields as FieldSeeds>::Values;
 
@@ -84,7 +83,7 @@ impl Record for Detach {
 
 impl Composite for Detach {
     ghost use Rattle.std.specs.Prelude.{codes};
-    ghost use Rattle.amqp_de.specs.Fields.{OnFields, ReadsRequired, ReadsOptional, NoMoreFields};
+    ghost use Rattle.serde_amqp.specs.Derive.{OnFields, ReadsRequired, ReadsOptional, NoMoreFields};
 
     ghost descriptor_code = { 0x16 };
 
@@ -163,8 +162,7 @@ impl Composite for Detach {
 
 impl Deserialize for Detach {
     ghost use Rattle.std.specs.Prelude.{codes};
-    ghost use Rattle.amqp_ser.specs.Tree.{code, described};
-    ghost use Rattle.amqp_de.specs.Composites.{OnComposite};
+    ghost use Rattle.serde_amqp.specs.Derive.{code, described, OnComposite};
 
     ghost reads = { λ t x. OnComposite 0x16 (codes "amqp:detach:list") (λ u. ⟦<Detach as Composite>⟧.reads u x) t };
 
@@ -203,7 +201,7 @@ impl RoundTrip for Detach {
 
 impl Detach {
     ghost use Rattle.std.specs.Prelude.{◌≡◌, false};
-    ghost use Rattle.amqp_de.specs.Defaults.{value_or};
+    ghost use Rattle.serde_amqp.specs.Derive.{value_or};
 
     /// Returns `closed`, or `false` if it is absent.
     pub fn closed_or_default(&self) -> bool
@@ -218,8 +216,7 @@ impl Detach {
 
 impl Serialize for End {
     ghost use Rattle.std.specs.Prelude.{[], ◌∷◌};
-    ghost use Rattle.amqp_ser.specs.Tree.{code};
-    ghost use Rattle.amqp_ser.specs.Words.{short_composite, optional_value};
+    ghost use Rattle.serde_amqp.specs.Derive.{code, short_composite, optional_value};
 
     ghost tree = { λ x. short_composite (code 0x17) (
         optional_value ⟦<AmqpError as Serialize>⟧.tree x.error
@@ -239,7 +236,7 @@ impl Serialize for End {
 type EndFields = Optional<AmqpError, ()>;
 
 impl Record for End {
-    ghost use Rattle.amqp_de.specs.Parts.{◌▸◌};
+    ghost use Rattle.serde_amqp.specs.Derive.{◌▸◌};
 
     type Values = <EndFields as FieldSeeds>::Values;
 
@@ -248,7 +245,7 @@ impl Record for End {
 
 impl Composite for End {
     ghost use Rattle.std.specs.Prelude.{codes};
-    ghost use Rattle.amqp_de.specs.Fields.{OnFields, ReadsOptional, NoMoreFields};
+    ghost use Rattle.serde_amqp.specs.Derive.{OnFields, ReadsOptional, NoMoreFields};
 
     ghost descriptor_code = { 0x17 };
 
@@ -297,8 +294,7 @@ impl Composite for End {
 
 impl Deserialize for End {
     ghost use Rattle.std.specs.Prelude.{codes};
-    ghost use Rattle.amqp_ser.specs.Tree.{code, described};
-    ghost use Rattle.amqp_de.specs.Composites.{OnComposite};
+    ghost use Rattle.serde_amqp.specs.Derive.{code, described, OnComposite};
 
     ghost reads = { λ t x. OnComposite 0x17 (codes "amqp:end:list") (λ u. ⟦<End as Composite>⟧.reads u x) t };
 
@@ -332,8 +328,7 @@ impl RoundTrip for End {
 
 impl Serialize for Close {
     ghost use Rattle.std.specs.Prelude.{[], ◌∷◌};
-    ghost use Rattle.amqp_ser.specs.Tree.{code};
-    ghost use Rattle.amqp_ser.specs.Words.{short_composite, optional_value};
+    ghost use Rattle.serde_amqp.specs.Derive.{code, short_composite, optional_value};
 
     ghost tree = { λ x. short_composite (code 0x18) (
         optional_value ⟦<AmqpError as Serialize>⟧.tree x.error
@@ -353,7 +348,7 @@ impl Serialize for Close {
 type CloseFields = Optional<AmqpError, ()>;
 
 impl Record for Close {
-    ghost use Rattle.amqp_de.specs.Parts.{◌▸◌};
+    ghost use Rattle.serde_amqp.specs.Derive.{◌▸◌};
 
     type Values = <CloseFields as FieldSeeds>::Values;
 
@@ -362,7 +357,7 @@ impl Record for Close {
 
 impl Composite for Close {
     ghost use Rattle.std.specs.Prelude.{codes};
-    ghost use Rattle.amqp_de.specs.Fields.{OnFields, ReadsOptional, NoMoreFields};
+    ghost use Rattle.serde_amqp.specs.Derive.{OnFields, ReadsOptional, NoMoreFields};
 
     ghost descriptor_code = { 0x18 };
 
@@ -411,8 +406,7 @@ impl Composite for Close {
 
 impl Deserialize for Close {
     ghost use Rattle.std.specs.Prelude.{codes};
-    ghost use Rattle.amqp_ser.specs.Tree.{code, described};
-    ghost use Rattle.amqp_de.specs.Composites.{OnComposite};
+    ghost use Rattle.serde_amqp.specs.Derive.{code, described, OnComposite};
 
     ghost reads = { λ t x. OnComposite 0x18 (codes "amqp:close:list") (λ u. ⟦<Close as Composite>⟧.reads u x) t };
 

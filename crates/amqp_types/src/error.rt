@@ -28,8 +28,7 @@ use serde_amqp::derive::{
 
 impl Serialize for AmqpError {
     ghost use Rattle.std.specs.Prelude.{[], ◌∷◌};
-    ghost use Rattle.amqp_ser.specs.Tree.{code};
-    ghost use Rattle.amqp_ser.specs.Words.{short_composite, required_value, optional_value, of_string, of_symbol};
+    ghost use Rattle.serde_amqp.specs.Derive.{code, short_composite, required_value, optional_value, of_string, of_symbol};
 
     ghost tree = { λ x. short_composite (code 0x1d) (
         required_value (of_symbol x.condition)
@@ -53,7 +52,7 @@ impl Serialize for AmqpError {
 type AmqpErrorFields = Required<Symbol, Optional<String, Optional<OrderedMap<Symbol, Value>, ()>>>;
 
 impl Record for AmqpError {
-    ghost use Rattle.amqp_de.specs.Parts.{◌▸◌};
+    ghost use Rattle.serde_amqp.specs.Derive.{◌▸◌};
 
     type Values = <AmqpErrorFields as FieldSeeds>::Values;
 
@@ -62,7 +61,7 @@ impl Record for AmqpError {
 
 impl Composite for AmqpError {
     ghost use Rattle.std.specs.Prelude.{codes};
-    ghost use Rattle.amqp_de.specs.Fields.{OnFields, ReadsRequired, ReadsOptional, NoMoreFields};
+    ghost use Rattle.serde_amqp.specs.Derive.{OnFields, ReadsRequired, ReadsOptional, NoMoreFields};
 
     ghost descriptor_code = { 0x1d };
 
@@ -141,8 +140,7 @@ impl Composite for AmqpError {
 
 impl Deserialize for AmqpError {
     ghost use Rattle.std.specs.Prelude.{codes};
-    ghost use Rattle.amqp_ser.specs.Tree.{code, described};
-    ghost use Rattle.amqp_de.specs.Composites.{OnComposite};
+    ghost use Rattle.serde_amqp.specs.Derive.{code, described, OnComposite};
 
     ghost reads = { λ t x. OnComposite 0x1d (codes "amqp:error:list") (λ u. ⟦<AmqpError as Composite>⟧.reads u x) t };
 

@@ -33,8 +33,7 @@ use serde_amqp::derive::{
 
 impl Serialize for Header {
     ghost use Rattle.std.specs.Prelude.{[], ◌∷◌};
-    ghost use Rattle.amqp_ser.specs.Tree.{code};
-    ghost use Rattle.amqp_ser.specs.Words.{short_composite, optional_value, of_bool, of_u32, of_u8};
+    ghost use Rattle.serde_amqp.specs.Derive.{code, short_composite, optional_value, of_bool, of_u32, of_u8};
 
     ghost tree = { λ x. short_composite (code 0x70) (
         optional_value of_bool x.durable
@@ -62,7 +61,7 @@ impl Serialize for Header {
 type HeaderFields = Optional<bool, Optional<u8, Optional<u32, Optional<bool, Optional<u32, ()>>>>>;
 
 impl Record for Header {
-    ghost use Rattle.amqp_de.specs.Parts.{◌▸◌};
+    ghost use Rattle.serde_amqp.specs.Derive.{◌▸◌};
 
     type Values = <HeaderFields as FieldSeeds>::Values;
 
@@ -71,7 +70,7 @@ impl Record for Header {
 
 impl Composite for Header {
     ghost use Rattle.std.specs.Prelude.{codes};
-    ghost use Rattle.amqp_de.specs.Fields.{OnFields, ReadsOptional, NoMoreFields};
+    ghost use Rattle.serde_amqp.specs.Derive.{OnFields, ReadsOptional, NoMoreFields};
 
     ghost descriptor_code = { 0x70 };
 
@@ -170,8 +169,7 @@ impl Composite for Header {
 
 impl Deserialize for Header {
     ghost use Rattle.std.specs.Prelude.{codes};
-    ghost use Rattle.amqp_ser.specs.Tree.{code, described};
-    ghost use Rattle.amqp_de.specs.Composites.{OnComposite};
+    ghost use Rattle.serde_amqp.specs.Derive.{code, described, OnComposite};
 
     ghost reads = { λ t x. OnComposite 0x70 (codes "amqp:header:list") (λ u. ⟦<Header as Composite>⟧.reads u x) t };
 
@@ -210,7 +208,7 @@ impl RoundTrip for Header {
 
 impl Header {
     ghost use Rattle.std.specs.Prelude.{◌≡◌, false};
-    ghost use Rattle.amqp_de.specs.Defaults.{value_or};
+    ghost use Rattle.serde_amqp.specs.Derive.{value_or};
 
     /// Returns `durable`, or `false` if it is absent.
     pub fn durable_or_default(&self) -> bool

@@ -51,9 +51,7 @@ use serde_amqp::derive::{
 
 impl Serialize for MessageId {
     ghost use Rattle.std.specs.Prelude.{Some, string_bytes};
-    ghost use Rattle.amqp_data.specs.Items.{byte_buf_bytes};
-    ghost use Rattle.amqp_data.specs.Fixed.{uuid_bytes};
-    ghost use Rattle.amqp_ser.specs.Tree.{Scalar, scalar, ulong, uuid, binary, string};
+    ghost use Rattle.serde_amqp.specs.Derive.{byte_buf_bytes, uuid_bytes, Scalar, scalar, ulong, uuid, binary, string};
     ghost use Rattle.amqp_types.specs.declared.identifiers.MessageId.TheVariants as variant;
 
     ghost tree = { λ x. Some (scalar (elim x as (λ _. Scalar) [ variant.Ulong v ↦ ulong v | variant.Uuid v ↦ uuid (uuid_bytes v) | variant.Binary v ↦ binary (byte_buf_bytes v) | variant.String v ↦ string (string_bytes v) ])) };
@@ -70,10 +68,7 @@ impl Serialize for MessageId {
 
 impl Deserialize for MessageId {
     ghost use Rattle.std.specs.Prelude.{◌≡◌, string_bytes};
-    ghost use Rattle.amqp_data.specs.Items.{byte_buf_bytes};
-    ghost use Rattle.amqp_data.specs.Fixed.{uuid_bytes};
-    ghost use Rattle.amqp_ser.specs.Tree.{Scalar, scalar, ulong, uuid, binary, string};
-    ghost use Rattle.amqp_de.specs.Reads.{Always};
+    ghost use Rattle.serde_amqp.specs.Derive.{byte_buf_bytes, uuid_bytes, Scalar, scalar, ulong, uuid, binary, string, Always};
     ghost use Rattle.amqp_types.specs.declared.identifiers.MessageId.TheVariants as variant;
 
     ghost reads = { λ t x. t ≡ scalar (elim x as (λ _. Scalar) [ variant.Ulong v ↦ ulong v | variant.Uuid v ↦ uuid (uuid_bytes v) | variant.Binary v ↦ binary (byte_buf_bytes v) | variant.String v ↦ string (string_bytes v) ]) };
@@ -129,7 +124,7 @@ impl RoundTrip for MessageId {
 
 impl Serialize for Address {
     ghost use Rattle.std.specs.Prelude.{Some, string_bytes};
-    ghost use Rattle.amqp_ser.specs.Tree.{Scalar, scalar, string};
+    ghost use Rattle.serde_amqp.specs.Derive.{Scalar, scalar, string};
     ghost use Rattle.amqp_types.specs.declared.identifiers.Address.TheVariants as variant;
 
     ghost tree = { λ x. Some (scalar (elim x as (λ _. Scalar) [ variant.String v ↦ string (string_bytes v) ])) };
@@ -143,8 +138,7 @@ impl Serialize for Address {
 
 impl Deserialize for Address {
     ghost use Rattle.std.specs.Prelude.{◌≡◌, string_bytes};
-    ghost use Rattle.amqp_ser.specs.Tree.{Scalar, scalar, string};
-    ghost use Rattle.amqp_de.specs.Reads.{Always};
+    ghost use Rattle.serde_amqp.specs.Derive.{Scalar, scalar, string, Always};
     ghost use Rattle.amqp_types.specs.declared.identifiers.Address.TheVariants as variant;
 
     ghost reads = { λ t x. t ≡ scalar (elim x as (λ _. Scalar) [ variant.String v ↦ string (string_bytes v) ]) };
@@ -182,8 +176,7 @@ impl RoundTrip for Address {
 
 impl Serialize for AnnotationKey {
     ghost use Rattle.std.specs.Prelude.{Some};
-    ghost use Rattle.amqp_data.specs.Text.{symbol_text};
-    ghost use Rattle.amqp_ser.specs.Tree.{Scalar, scalar, ulong, symbol};
+    ghost use Rattle.serde_amqp.specs.Derive.{symbol_text, Scalar, scalar, ulong, symbol};
     ghost use Rattle.amqp_types.specs.declared.identifiers.AnnotationKey.TheVariants as variant;
 
     ghost tree = { λ x. Some (scalar (elim x as (λ _. Scalar) [ variant.Symbol v ↦ symbol (symbol_text v) | variant.Ulong v ↦ ulong v ])) };
@@ -198,9 +191,7 @@ impl Serialize for AnnotationKey {
 
 impl Deserialize for AnnotationKey {
     ghost use Rattle.std.specs.Prelude.{◌≡◌};
-    ghost use Rattle.amqp_data.specs.Text.{symbol_text};
-    ghost use Rattle.amqp_ser.specs.Tree.{Scalar, scalar, ulong, symbol};
-    ghost use Rattle.amqp_de.specs.Reads.{Always};
+    ghost use Rattle.serde_amqp.specs.Derive.{symbol_text, Scalar, scalar, ulong, symbol, Always};
     ghost use Rattle.amqp_types.specs.declared.identifiers.AnnotationKey.TheVariants as variant;
 
     ghost reads = { λ t x. t ≡ scalar (elim x as (λ _. Scalar) [ variant.Symbol v ↦ symbol (symbol_text v) | variant.Ulong v ↦ ulong v ]) };

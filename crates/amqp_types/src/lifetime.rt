@@ -61,8 +61,7 @@ use serde_amqp::derive::{
 
 impl Serialize for DeleteOnClose {
     ghost use Rattle.std.specs.Prelude.{[]};
-    ghost use Rattle.amqp_ser.specs.Tree.{code};
-    ghost use Rattle.amqp_ser.specs.Words.{short_composite};
+    ghost use Rattle.serde_amqp.specs.Derive.{code, short_composite};
 
     ghost tree = { λ _. short_composite (code 0x2b) [] };
 
@@ -82,7 +81,7 @@ impl Record for DeleteOnClose {
 
 impl Composite for DeleteOnClose {
     ghost use Rattle.std.specs.Prelude.{codes};
-    ghost use Rattle.amqp_de.specs.Fields.{OnFields, NoMoreFields};
+    ghost use Rattle.serde_amqp.specs.Derive.{OnFields, NoMoreFields};
 
     ghost descriptor_code = { 0x2b };
 
@@ -126,8 +125,7 @@ impl Composite for DeleteOnClose {
 
 impl Deserialize for DeleteOnClose {
     ghost use Rattle.std.specs.Prelude.{codes};
-    ghost use Rattle.amqp_ser.specs.Tree.{code, described};
-    ghost use Rattle.amqp_de.specs.Composites.{OnComposite};
+    ghost use Rattle.serde_amqp.specs.Derive.{code, described, OnComposite};
 
     ghost reads = { λ t x. OnComposite 0x2b (codes "amqp:delete-on-close:list") (λ u. ⟦<DeleteOnClose as Composite>⟧.reads u x) t };
 
@@ -169,8 +167,7 @@ impl RoundTrip for DeleteOnClose {
 
 impl Serialize for DeleteOnNoLinks {
     ghost use Rattle.std.specs.Prelude.{[]};
-    ghost use Rattle.amqp_ser.specs.Tree.{code};
-    ghost use Rattle.amqp_ser.specs.Words.{short_composite};
+    ghost use Rattle.serde_amqp.specs.Derive.{code, short_composite};
 
     ghost tree = { λ _. short_composite (code 0x2c) [] };
 
@@ -190,7 +187,7 @@ impl Record for DeleteOnNoLinks {
 
 impl Composite for DeleteOnNoLinks {
     ghost use Rattle.std.specs.Prelude.{codes};
-    ghost use Rattle.amqp_de.specs.Fields.{OnFields, NoMoreFields};
+    ghost use Rattle.serde_amqp.specs.Derive.{OnFields, NoMoreFields};
 
     ghost descriptor_code = { 0x2c };
 
@@ -234,8 +231,7 @@ impl Composite for DeleteOnNoLinks {
 
 impl Deserialize for DeleteOnNoLinks {
     ghost use Rattle.std.specs.Prelude.{codes};
-    ghost use Rattle.amqp_ser.specs.Tree.{code, described};
-    ghost use Rattle.amqp_de.specs.Composites.{OnComposite};
+    ghost use Rattle.serde_amqp.specs.Derive.{code, described, OnComposite};
 
     ghost reads = { λ t x. OnComposite 0x2c (codes "amqp:delete-on-no-links:list") (λ u. ⟦<DeleteOnNoLinks as Composite>⟧.reads u x) t };
 
@@ -277,8 +273,7 @@ impl RoundTrip for DeleteOnNoLinks {
 
 impl Serialize for DeleteOnNoMessages {
     ghost use Rattle.std.specs.Prelude.{[]};
-    ghost use Rattle.amqp_ser.specs.Tree.{code};
-    ghost use Rattle.amqp_ser.specs.Words.{short_composite};
+    ghost use Rattle.serde_amqp.specs.Derive.{code, short_composite};
 
     ghost tree = { λ _. short_composite (code 0x2d) [] };
 
@@ -298,7 +293,7 @@ impl Record for DeleteOnNoMessages {
 
 impl Composite for DeleteOnNoMessages {
     ghost use Rattle.std.specs.Prelude.{codes};
-    ghost use Rattle.amqp_de.specs.Fields.{OnFields, NoMoreFields};
+    ghost use Rattle.serde_amqp.specs.Derive.{OnFields, NoMoreFields};
 
     ghost descriptor_code = { 0x2d };
 
@@ -342,8 +337,7 @@ impl Composite for DeleteOnNoMessages {
 
 impl Deserialize for DeleteOnNoMessages {
     ghost use Rattle.std.specs.Prelude.{codes};
-    ghost use Rattle.amqp_ser.specs.Tree.{code, described};
-    ghost use Rattle.amqp_de.specs.Composites.{OnComposite};
+    ghost use Rattle.serde_amqp.specs.Derive.{code, described, OnComposite};
 
     ghost reads = { λ t x. OnComposite 0x2d (codes "amqp:delete-on-no-messages:list") (λ u. ⟦<DeleteOnNoMessages as Composite>⟧.reads u x) t };
 
@@ -385,8 +379,7 @@ impl RoundTrip for DeleteOnNoMessages {
 
 impl Serialize for DeleteOnNoLinksOrMessages {
     ghost use Rattle.std.specs.Prelude.{[]};
-    ghost use Rattle.amqp_ser.specs.Tree.{code};
-    ghost use Rattle.amqp_ser.specs.Words.{short_composite};
+    ghost use Rattle.serde_amqp.specs.Derive.{code, short_composite};
 
     ghost tree = { λ _. short_composite (code 0x2e) [] };
 
@@ -406,7 +399,7 @@ impl Record for DeleteOnNoLinksOrMessages {
 
 impl Composite for DeleteOnNoLinksOrMessages {
     ghost use Rattle.std.specs.Prelude.{codes};
-    ghost use Rattle.amqp_de.specs.Fields.{OnFields, NoMoreFields};
+    ghost use Rattle.serde_amqp.specs.Derive.{OnFields, NoMoreFields};
 
     ghost descriptor_code = { 0x2e };
 
@@ -452,8 +445,7 @@ impl Composite for DeleteOnNoLinksOrMessages {
 
 impl Deserialize for DeleteOnNoLinksOrMessages {
     ghost use Rattle.std.specs.Prelude.{codes};
-    ghost use Rattle.amqp_ser.specs.Tree.{code, described};
-    ghost use Rattle.amqp_de.specs.Composites.{OnComposite};
+    ghost use Rattle.serde_amqp.specs.Derive.{code, described, OnComposite};
 
     ghost reads = { λ t x. OnComposite 0x2e (codes "amqp:delete-on-no-links-or-messages:list") (λ u. ⟦<DeleteOnNoLinksOrMessages as Composite>⟧.reads u x) t };
 
@@ -494,7 +486,7 @@ impl RoundTrip for DeleteOnNoLinksOrMessages {
 }
 
 impl Record for LifetimePolicy {
-    ghost use Rattle.amqp_de.specs.declared.enums.variants.Either.TheVariants.{This, Other};
+    ghost use Rattle.serde_amqp.specs.Derive.{This, Other};
     ghost use Rattle.amqp_types.specs.declared.lifetime.LifetimePolicy.TheVariants as variant;
 
     type Values = Either<
@@ -522,8 +514,7 @@ impl Serialize for LifetimePolicy {
 }
 
 impl Deserialize for LifetimePolicy {
-    ghost use Rattle.amqp_ser.specs.Tree.{code, described};
-    ghost use Rattle.amqp_de.specs.Composites.{OnAlternatives};
+    ghost use Rattle.serde_amqp.specs.Derive.{code, described, OnAlternatives};
 
     ghost reads = { λ t x. OnAlternatives ⟦<Either<DeleteOnClose, Either<DeleteOnNoLinks, Either<DeleteOnNoMessages, Either<DeleteOnNoLinksOrMessages, Never>>>> as Alternatives>⟧.reads t (⟦<LifetimePolicy as Record>⟧.parts x) };
 

@@ -82,8 +82,7 @@ use serde_amqp::derive::{
 
 impl Serialize for Attach {
     ghost use Rattle.std.specs.Prelude.{[], ◌∷◌};
-    ghost use Rattle.amqp_ser.specs.Tree.{code};
-    ghost use Rattle.amqp_ser.specs.Words.{short_composite, required_value, optional_value, of_bool, of_string, of_u32, of_u64};
+    ghost use Rattle.serde_amqp.specs.Derive.{code, short_composite, required_value, optional_value, of_bool, of_string, of_u32, of_u64};
 
     ghost tree = { λ x. short_composite (code 0x12) (
         required_value (of_string x.name)
@@ -168,7 +167,7 @@ type AttachFields = Required<
 >;
 
 impl Record for Attach {
-    ghost use Rattle.amqp_de.specs.Parts.{◌▸◌};
+    ghost use Rattle.serde_amqp.specs.Derive.{◌▸◌};
 
     type Values = <AttachFields as FieldSeeds>::Values;
 
@@ -177,7 +176,7 @@ impl Record for Attach {
 
 impl Composite for Attach {
     ghost use Rattle.std.specs.Prelude.{codes};
-    ghost use Rattle.amqp_de.specs.Fields.{OnFields, ReadsRequired, ReadsOptional, NoMoreFields};
+    ghost use Rattle.serde_amqp.specs.Derive.{OnFields, ReadsRequired, ReadsOptional, NoMoreFields};
 
     ghost descriptor_code = { 0x12 };
 
@@ -371,8 +370,7 @@ impl Composite for Attach {
 
 impl Deserialize for Attach {
     ghost use Rattle.std.specs.Prelude.{codes};
-    ghost use Rattle.amqp_ser.specs.Tree.{code, described};
-    ghost use Rattle.amqp_de.specs.Composites.{OnComposite};
+    ghost use Rattle.serde_amqp.specs.Derive.{code, described, OnComposite};
 
     ghost reads = { λ t x. OnComposite 0x12 (codes "amqp:attach:list") (λ u. ⟦<Attach as Composite>⟧.reads u x) t };
 
@@ -411,7 +409,7 @@ impl RoundTrip for Attach {
 
 impl Attach {
     ghost use Rattle.std.specs.Prelude.{◌≡◌, false};
-    ghost use Rattle.amqp_de.specs.Defaults.{value_or};
+    ghost use Rattle.serde_amqp.specs.Derive.{value_or};
 
     /// Returns `incomplete_unsettled`, or `false` if it is absent.
     pub fn incomplete_unsettled_or_default(&self) -> bool

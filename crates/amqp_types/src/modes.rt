@@ -49,7 +49,7 @@ use serde_amqp::derive::{
 
 impl Serialize for Role {
     ghost use Rattle.std.specs.Prelude.{Some, Bool, true, false};
-    ghost use Rattle.amqp_ser.specs.Tree.{scalar, bool};
+    ghost use Rattle.serde_amqp.specs.Derive.{scalar, bool};
     ghost use Rattle.amqp_types.specs.declared.modes.Role.TheVariants as variant;
 
     ghost tree = { λ x. Some (scalar (bool (elim x as (λ _. Bool) [ variant.Sender ↦ false | variant.Receiver ↦ true ]))) };
@@ -64,8 +64,7 @@ impl Serialize for Role {
 
 impl Deserialize for Role {
     ghost use Rattle.std.specs.Prelude.{◌≡◌, Bool, true, false};
-    ghost use Rattle.amqp_ser.specs.Tree.{scalar, bool};
-    ghost use Rattle.amqp_de.specs.Reads.{Always};
+    ghost use Rattle.serde_amqp.specs.Derive.{scalar, bool, Always};
     ghost use Rattle.amqp_types.specs.declared.modes.Role.TheVariants as variant;
 
     ghost reads = { λ t x. t ≡ scalar (bool (elim x as (λ _. Bool) [ variant.Sender ↦ false | variant.Receiver ↦ true ])) };
@@ -104,7 +103,7 @@ impl RoundTrip for Role {
 
 impl Serialize for SenderSettleMode {
     ghost use Rattle.std.specs.Prelude.{Some, ℕ};
-    ghost use Rattle.amqp_ser.specs.Tree.{scalar, ubyte};
+    ghost use Rattle.serde_amqp.specs.Derive.{scalar, ubyte};
     ghost use Rattle.amqp_types.specs.declared.modes.SenderSettleMode.TheVariants as variant;
 
     ghost tree = { λ x. Some (scalar (ubyte (elim x as (λ _. ℕ) [ variant.Unsettled ↦ 0 | variant.Settled ↦ 1 | variant.Mixed ↦ 2 ]))) };
@@ -120,8 +119,7 @@ impl Serialize for SenderSettleMode {
 
 impl Deserialize for SenderSettleMode {
     ghost use Rattle.std.specs.Prelude.{◌≡◌, ℕ};
-    ghost use Rattle.amqp_ser.specs.Tree.{scalar, ubyte};
-    ghost use Rattle.amqp_de.specs.Reads.{Always};
+    ghost use Rattle.serde_amqp.specs.Derive.{scalar, ubyte, Always};
     ghost use Rattle.amqp_types.specs.declared.modes.SenderSettleMode.TheVariants as variant;
 
     ghost reads = { λ t x. t ≡ scalar (ubyte (elim x as (λ _. ℕ) [ variant.Unsettled ↦ 0 | variant.Settled ↦ 1 | variant.Mixed ↦ 2 ])) };
@@ -165,7 +163,7 @@ impl RoundTrip for SenderSettleMode {
 
 impl Serialize for ReceiverSettleMode {
     ghost use Rattle.std.specs.Prelude.{Some, ℕ};
-    ghost use Rattle.amqp_ser.specs.Tree.{scalar, ubyte};
+    ghost use Rattle.serde_amqp.specs.Derive.{scalar, ubyte};
     ghost use Rattle.amqp_types.specs.declared.modes.ReceiverSettleMode.TheVariants as variant;
 
     ghost tree = { λ x. Some (scalar (ubyte (elim x as (λ _. ℕ) [ variant.First ↦ 0 | variant.Second ↦ 1 ]))) };
@@ -180,8 +178,7 @@ impl Serialize for ReceiverSettleMode {
 
 impl Deserialize for ReceiverSettleMode {
     ghost use Rattle.std.specs.Prelude.{◌≡◌, ℕ};
-    ghost use Rattle.amqp_ser.specs.Tree.{scalar, ubyte};
-    ghost use Rattle.amqp_de.specs.Reads.{Always};
+    ghost use Rattle.serde_amqp.specs.Derive.{scalar, ubyte, Always};
     ghost use Rattle.amqp_types.specs.declared.modes.ReceiverSettleMode.TheVariants as variant;
 
     ghost reads = { λ t x. t ≡ scalar (ubyte (elim x as (λ _. ℕ) [ variant.First ↦ 0 | variant.Second ↦ 1 ])) };

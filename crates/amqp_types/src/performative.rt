@@ -69,7 +69,7 @@ use serde_amqp::derive::{
 };
 
 impl Record for Performative {
-    ghost use Rattle.amqp_de.specs.declared.enums.variants.Either.TheVariants.{This, Other};
+    ghost use Rattle.serde_amqp.specs.Derive.{This, Other};
     ghost use Rattle.amqp_types.specs.declared.performative.Performative.TheVariants as variant;
 
     type Values = Either<
@@ -112,8 +112,7 @@ impl Serialize for Performative {
 }
 
 impl Deserialize for Performative {
-    ghost use Rattle.amqp_ser.specs.Tree.{code, described};
-    ghost use Rattle.amqp_de.specs.Composites.{OnAlternatives};
+    ghost use Rattle.serde_amqp.specs.Derive.{code, described, OnAlternatives};
 
     ghost reads = { λ t x. OnAlternatives ⟦<Either<Open, Either<Begin, Either<Attach, Either<Flow, Either<Transfer, Either<Disposition, Either<Detach, Either<End, Either<Close, Unknown>>>>>>>>> as Alternatives>⟧.reads t (⟦<Performative as Record>⟧.parts x) };
 
@@ -245,7 +244,7 @@ impl RoundTrip for Performative {
 }
 
 impl Record for SaslFrame {
-    ghost use Rattle.amqp_de.specs.declared.enums.variants.Either.TheVariants.{This, Other};
+    ghost use Rattle.serde_amqp.specs.Derive.{This, Other};
     ghost use Rattle.amqp_types.specs.declared.performative.SaslFrame.TheVariants as variant;
 
     type Values = Either<
@@ -272,8 +271,7 @@ impl Serialize for SaslFrame {
 }
 
 impl Deserialize for SaslFrame {
-    ghost use Rattle.amqp_ser.specs.Tree.{code, described};
-    ghost use Rattle.amqp_de.specs.Composites.{OnAlternatives};
+    ghost use Rattle.serde_amqp.specs.Derive.{code, described, OnAlternatives};
 
     ghost reads = { λ t x. OnAlternatives ⟦<Either<SaslMechanisms, Either<SaslInit, Either<SaslChallenge, Either<SaslResponse, Either<SaslOutcome, Unknown>>>>> as Alternatives>⟧.reads t (⟦<SaslFrame as Record>⟧.parts x) };
 

@@ -48,8 +48,7 @@ use serde_amqp::derive::{
 
 impl Serialize for Properties {
     ghost use Rattle.std.specs.Prelude.{[], ◌∷◌};
-    ghost use Rattle.amqp_ser.specs.Tree.{code};
-    ghost use Rattle.amqp_ser.specs.Words.{short_composite, optional_value, of_binary, of_string, of_symbol, of_timestamp, of_u32};
+    ghost use Rattle.serde_amqp.specs.Derive.{code, short_composite, optional_value, of_binary, of_string, of_symbol, of_timestamp, of_u32};
 
     ghost tree = { λ x. short_composite (code 0x73) (
         optional_value ⟦<MessageId as Serialize>⟧.tree x.message_id
@@ -123,7 +122,7 @@ type PropertiesFields = Optional<
 >;
 
 impl Record for Properties {
-    ghost use Rattle.amqp_de.specs.Parts.{◌▸◌};
+    ghost use Rattle.serde_amqp.specs.Derive.{◌▸◌};
 
     type Values = <PropertiesFields as FieldSeeds>::Values;
 
@@ -132,7 +131,7 @@ impl Record for Properties {
 
 impl Composite for Properties {
     ghost use Rattle.std.specs.Prelude.{codes};
-    ghost use Rattle.amqp_de.specs.Fields.{OnFields, ReadsOptional, NoMoreFields};
+    ghost use Rattle.serde_amqp.specs.Derive.{OnFields, ReadsOptional, NoMoreFields};
 
     ghost descriptor_code = { 0x73 };
 
@@ -319,8 +318,7 @@ impl Composite for Properties {
 
 impl Deserialize for Properties {
     ghost use Rattle.std.specs.Prelude.{codes};
-    ghost use Rattle.amqp_ser.specs.Tree.{code, described};
-    ghost use Rattle.amqp_de.specs.Composites.{OnComposite};
+    ghost use Rattle.serde_amqp.specs.Derive.{code, described, OnComposite};
 
     ghost reads = { λ t x. OnComposite 0x73 (codes "amqp:properties:list") (λ u. ⟦<Properties as Composite>⟧.reads u x) t };
 

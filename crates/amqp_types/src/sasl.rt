@@ -60,8 +60,7 @@ use serde_amqp::derive::{
 
 impl Serialize for SaslMechanisms {
     ghost use Rattle.std.specs.Prelude.{[], ◌∷◌};
-    ghost use Rattle.amqp_ser.specs.Tree.{code};
-    ghost use Rattle.amqp_ser.specs.Words.{short_composite, required_value};
+    ghost use Rattle.serde_amqp.specs.Derive.{code, short_composite, required_value};
 
     ghost tree = { λ x. short_composite (code 0x40) (
         required_value (⟦<Multiple<Symbol> as Serialize>⟧.tree x.sasl_server_mechanisms)
@@ -81,7 +80,7 @@ impl Serialize for SaslMechanisms {
 type SaslMechanismsFields = Required<Multiple<Symbol>, ()>;
 
 impl Record for SaslMechanisms {
-    ghost use Rattle.amqp_de.specs.Parts.{◌▸◌};
+    ghost use Rattle.serde_amqp.specs.Derive.{◌▸◌};
 
     type Values = <SaslMechanismsFields as FieldSeeds>::Values;
 
@@ -90,7 +89,7 @@ impl Record for SaslMechanisms {
 
 impl Composite for SaslMechanisms {
     ghost use Rattle.std.specs.Prelude.{codes};
-    ghost use Rattle.amqp_de.specs.Fields.{OnFields, ReadsRequired, NoMoreFields};
+    ghost use Rattle.serde_amqp.specs.Derive.{OnFields, ReadsRequired, NoMoreFields};
 
     ghost descriptor_code = { 0x40 };
 
@@ -150,8 +149,7 @@ impl Composite for SaslMechanisms {
 
 impl Deserialize for SaslMechanisms {
     ghost use Rattle.std.specs.Prelude.{codes};
-    ghost use Rattle.amqp_ser.specs.Tree.{code, described};
-    ghost use Rattle.amqp_de.specs.Composites.{OnComposite};
+    ghost use Rattle.serde_amqp.specs.Derive.{code, described, OnComposite};
 
     ghost reads = { λ t x. OnComposite 0x40 (codes "amqp:sasl-mechanisms:list") (λ u. ⟦<SaslMechanisms as Composite>⟧.reads u x) t };
 
@@ -193,8 +191,7 @@ impl RoundTrip for SaslMechanisms {
 
 impl Serialize for SaslInit {
     ghost use Rattle.std.specs.Prelude.{[], ◌∷◌};
-    ghost use Rattle.amqp_ser.specs.Tree.{code};
-    ghost use Rattle.amqp_ser.specs.Words.{short_composite, required_value, optional_value, of_binary, of_string, of_symbol};
+    ghost use Rattle.serde_amqp.specs.Derive.{code, short_composite, required_value, optional_value, of_binary, of_string, of_symbol};
 
     ghost tree = { λ x. short_composite (code 0x41) (
         required_value (of_symbol x.mechanism)
@@ -218,7 +215,7 @@ impl Serialize for SaslInit {
 type SaslInitFields = Required<Symbol, Optional<ByteBuf, Optional<String, ()>>>;
 
 impl Record for SaslInit {
-    ghost use Rattle.amqp_de.specs.Parts.{◌▸◌};
+    ghost use Rattle.serde_amqp.specs.Derive.{◌▸◌};
 
     type Values = <SaslInitFields as FieldSeeds>::Values;
 
@@ -227,7 +224,7 @@ impl Record for SaslInit {
 
 impl Composite for SaslInit {
     ghost use Rattle.std.specs.Prelude.{codes};
-    ghost use Rattle.amqp_de.specs.Fields.{OnFields, ReadsRequired, ReadsOptional, NoMoreFields};
+    ghost use Rattle.serde_amqp.specs.Derive.{OnFields, ReadsRequired, ReadsOptional, NoMoreFields};
 
     ghost descriptor_code = { 0x41 };
 
@@ -306,8 +303,7 @@ impl Composite for SaslInit {
 
 impl Deserialize for SaslInit {
     ghost use Rattle.std.specs.Prelude.{codes};
-    ghost use Rattle.amqp_ser.specs.Tree.{code, described};
-    ghost use Rattle.amqp_de.specs.Composites.{OnComposite};
+    ghost use Rattle.serde_amqp.specs.Derive.{code, described, OnComposite};
 
     ghost reads = { λ t x. OnComposite 0x41 (codes "amqp:sasl-init:list") (λ u. ⟦<SaslInit as Composite>⟧.reads u x) t };
 
@@ -346,8 +342,7 @@ impl RoundTrip for SaslInit {
 
 impl Serialize for SaslChallenge {
     ghost use Rattle.std.specs.Prelude.{[], ◌∷◌};
-    ghost use Rattle.amqp_ser.specs.Tree.{code};
-    ghost use Rattle.amqp_ser.specs.Words.{short_composite, required_value, of_binary};
+    ghost use Rattle.serde_amqp.specs.Derive.{code, short_composite, required_value, of_binary};
 
     ghost tree = { λ x. short_composite (code 0x42) (
         required_value (of_binary x.challenge)
@@ -367,7 +362,7 @@ impl Serialize for SaslChallenge {
 type SaslChallengeFields = Required<ByteBuf, ()>;
 
 impl Record for SaslChallenge {
-    ghost use Rattle.amqp_de.specs.Parts.{◌▸◌};
+    ghost use Rattle.serde_amqp.specs.Derive.{◌▸◌};
 
     type Values = <SaslChallengeFields as FieldSeeds>::Values;
 
@@ -376,7 +371,7 @@ impl Record for SaslChallenge {
 
 impl Composite for SaslChallenge {
     ghost use Rattle.std.specs.Prelude.{codes};
-    ghost use Rattle.amqp_de.specs.Fields.{OnFields, ReadsRequired, NoMoreFields};
+    ghost use Rattle.serde_amqp.specs.Derive.{OnFields, ReadsRequired, NoMoreFields};
 
     ghost descriptor_code = { 0x42 };
 
@@ -428,8 +423,7 @@ impl Composite for SaslChallenge {
 
 impl Deserialize for SaslChallenge {
     ghost use Rattle.std.specs.Prelude.{codes};
-    ghost use Rattle.amqp_ser.specs.Tree.{code, described};
-    ghost use Rattle.amqp_de.specs.Composites.{OnComposite};
+    ghost use Rattle.serde_amqp.specs.Derive.{code, described, OnComposite};
 
     ghost reads = { λ t x. OnComposite 0x42 (codes "amqp:sasl-challenge:list") (λ u. ⟦<SaslChallenge as Composite>⟧.reads u x) t };
 
@@ -471,8 +465,7 @@ impl RoundTrip for SaslChallenge {
 
 impl Serialize for SaslResponse {
     ghost use Rattle.std.specs.Prelude.{[], ◌∷◌};
-    ghost use Rattle.amqp_ser.specs.Tree.{code};
-    ghost use Rattle.amqp_ser.specs.Words.{short_composite, required_value, of_binary};
+    ghost use Rattle.serde_amqp.specs.Derive.{code, short_composite, required_value, of_binary};
 
     ghost tree = { λ x. short_composite (code 0x43) (
         required_value (of_binary x.response)
@@ -492,7 +485,7 @@ impl Serialize for SaslResponse {
 type SaslResponseFields = Required<ByteBuf, ()>;
 
 impl Record for SaslResponse {
-    ghost use Rattle.amqp_de.specs.Parts.{◌▸◌};
+    ghost use Rattle.serde_amqp.specs.Derive.{◌▸◌};
 
     type Values = <SaslResponseFields as FieldSeeds>::Values;
 
@@ -501,7 +494,7 @@ impl Record for SaslResponse {
 
 impl Composite for SaslResponse {
     ghost use Rattle.std.specs.Prelude.{codes};
-    ghost use Rattle.amqp_de.specs.Fields.{OnFields, ReadsRequired, NoMoreFields};
+    ghost use Rattle.serde_amqp.specs.Derive.{OnFields, ReadsRequired, NoMoreFields};
 
     ghost descriptor_code = { 0x43 };
 
@@ -553,8 +546,7 @@ impl Composite for SaslResponse {
 
 impl Deserialize for SaslResponse {
     ghost use Rattle.std.specs.Prelude.{codes};
-    ghost use Rattle.amqp_ser.specs.Tree.{code, described};
-    ghost use Rattle.amqp_de.specs.Composites.{OnComposite};
+    ghost use Rattle.serde_amqp.specs.Derive.{code, described, OnComposite};
 
     ghost reads = { λ t x. OnComposite 0x43 (codes "amqp:sasl-response:list") (λ u. ⟦<SaslResponse as Composite>⟧.reads u x) t };
 

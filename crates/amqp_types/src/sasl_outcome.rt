@@ -44,8 +44,7 @@ use serde_amqp::derive::{
 
 impl Serialize for SaslOutcome {
     ghost use Rattle.std.specs.Prelude.{[], ◌∷◌};
-    ghost use Rattle.amqp_ser.specs.Tree.{code};
-    ghost use Rattle.amqp_ser.specs.Words.{short_composite, required_value, optional_value, of_binary};
+    ghost use Rattle.serde_amqp.specs.Derive.{code, short_composite, required_value, optional_value, of_binary};
 
     ghost tree = { λ x. short_composite (code 0x44) (
         required_value (⟦<SaslCode as Serialize>⟧.tree x.code)
@@ -67,7 +66,7 @@ impl Serialize for SaslOutcome {
 type SaslOutcomeFields = Required<SaslCode, Optional<ByteBuf, ()>>;
 
 impl Record for SaslOutcome {
-    ghost use Rattle.amqp_de.specs.Parts.{◌▸◌};
+    ghost use Rattle.serde_amqp.specs.Derive.{◌▸◌};
 
     type Values = <SaslOutcomeFields as FieldSeeds>::Values;
 
@@ -76,7 +75,7 @@ impl Record for SaslOutcome {
 
 impl Composite for SaslOutcome {
     ghost use Rattle.std.specs.Prelude.{codes};
-    ghost use Rattle.amqp_de.specs.Fields.{OnFields, ReadsRequired, ReadsOptional, NoMoreFields};
+    ghost use Rattle.serde_amqp.specs.Derive.{OnFields, ReadsRequired, ReadsOptional, NoMoreFields};
 
     ghost descriptor_code = { 0x44 };
 
@@ -140,8 +139,7 @@ impl Composite for SaslOutcome {
 
 impl Deserialize for SaslOutcome {
     ghost use Rattle.std.specs.Prelude.{codes};
-    ghost use Rattle.amqp_ser.specs.Tree.{code, described};
-    ghost use Rattle.amqp_de.specs.Composites.{OnComposite};
+    ghost use Rattle.serde_amqp.specs.Derive.{code, described, OnComposite};
 
     ghost reads = { λ t x. OnComposite 0x44 (codes "amqp:sasl-outcome:list") (λ u. ⟦<SaslOutcome as Composite>⟧.reads u x) t };
 
@@ -183,7 +181,7 @@ impl RoundTrip for SaslOutcome {
 
 impl Serialize for SaslCode {
     ghost use Rattle.std.specs.Prelude.{Some, ℕ};
-    ghost use Rattle.amqp_ser.specs.Tree.{scalar, ubyte};
+    ghost use Rattle.serde_amqp.specs.Derive.{scalar, ubyte};
     ghost use Rattle.amqp_types.specs.declared.sasl_outcome.SaslCode.TheVariants as variant;
 
     ghost tree = { λ x. Some (scalar (ubyte (elim x as (λ _. ℕ) [ variant.Ok ↦ 0 | variant.Auth ↦ 1 | variant.Sys ↦ 2 | variant.SysPerm ↦ 3 | variant.SysTemp ↦ 4 ]))) };
@@ -201,8 +199,7 @@ impl Serialize for SaslCode {
 
 impl Deserialize for SaslCode {
     ghost use Rattle.std.specs.Prelude.{◌≡◌, ℕ};
-    ghost use Rattle.amqp_ser.specs.Tree.{scalar, ubyte};
-    ghost use Rattle.amqp_de.specs.Reads.{Always};
+    ghost use Rattle.serde_amqp.specs.Derive.{scalar, ubyte, Always};
     ghost use Rattle.amqp_types.specs.declared.sasl_outcome.SaslCode.TheVariants as variant;
 
     ghost reads = { λ t x. t ≡ scalar (ubyte (elim x as (λ _. ℕ) [ variant.Ok ↦ 0 | variant.Auth ↦ 1 | variant.Sys ↦ 2 | variant.SysPerm ↦ 3 | variant.SysTemp ↦ 4 ])) };

@@ -43,7 +43,7 @@ use serde_amqp::derive::{
 };
 
 impl Record for Section {
-    ghost use Rattle.amqp_de.specs.declared.enums.variants.Either.TheVariants.{This, Other};
+    ghost use Rattle.serde_amqp.specs.Derive.{This, Other};
     ghost use Rattle.amqp_types.specs.declared.section.Section.TheVariants as variant;
 
     type Values = Either<
@@ -89,8 +89,7 @@ impl Serialize for Section {
 }
 
 impl Deserialize for Section {
-    ghost use Rattle.amqp_ser.specs.Tree.{code, described};
-    ghost use Rattle.amqp_de.specs.Composites.{OnAlternatives};
+    ghost use Rattle.serde_amqp.specs.Derive.{code, described, OnAlternatives};
 
     ghost reads = { λ t x. OnAlternatives ⟦<Either<Header, Either<DeliveryAnnotations, Either<MessageAnnotations, Either<Properties, Either<ApplicationProperties, Either<Data, Either<AmqpSequence, Either<AmqpValue, Either<Footer, Unknown>>>>>>>>> as Alternatives>⟧.reads t (⟦<Section as Record>⟧.parts x) };
 

@@ -39,8 +39,7 @@ use serde_amqp::derive::{
 
 impl Serialize for Begin {
     ghost use Rattle.std.specs.Prelude.{[], ◌∷◌};
-    ghost use Rattle.amqp_ser.specs.Tree.{code};
-    ghost use Rattle.amqp_ser.specs.Words.{short_composite, required_value, optional_value, of_u16, of_u32};
+    ghost use Rattle.serde_amqp.specs.Derive.{code, short_composite, required_value, optional_value, of_u16, of_u32};
 
     ghost tree = { λ x. short_composite (code 0x11) (
         optional_value of_u16 x.remote_channel
@@ -92,7 +91,7 @@ type BeginFields = Optional<
 >;
 
 impl Record for Begin {
-    ghost use Rattle.amqp_de.specs.Parts.{◌▸◌};
+    ghost use Rattle.serde_amqp.specs.Derive.{◌▸◌};
 
     type Values = <BeginFields as FieldSeeds>::Values;
 
@@ -101,7 +100,7 @@ impl Record for Begin {
 
 impl Composite for Begin {
     ghost use Rattle.std.specs.Prelude.{codes};
-    ghost use Rattle.amqp_de.specs.Fields.{OnFields, ReadsRequired, ReadsOptional, NoMoreFields};
+    ghost use Rattle.serde_amqp.specs.Derive.{OnFields, ReadsRequired, ReadsOptional, NoMoreFields};
 
     ghost descriptor_code = { 0x11 };
 
@@ -239,8 +238,7 @@ impl Composite for Begin {
 
 impl Deserialize for Begin {
     ghost use Rattle.std.specs.Prelude.{codes};
-    ghost use Rattle.amqp_ser.specs.Tree.{code, described};
-    ghost use Rattle.amqp_de.specs.Composites.{OnComposite};
+    ghost use Rattle.serde_amqp.specs.Derive.{code, described, OnComposite};
 
     ghost reads = { λ t x. OnComposite 0x11 (codes "amqp:begin:list") (λ u. ⟦<Begin as Composite>⟧.reads u x) t };
 
@@ -279,7 +277,7 @@ impl RoundTrip for Begin {
 
 impl Begin {
     ghost use Rattle.std.specs.Prelude.{◌≡◌};
-    ghost use Rattle.amqp_de.specs.Defaults.{value_or};
+    ghost use Rattle.serde_amqp.specs.Derive.{value_or};
 
     /// Returns `handle_max`, or `4294967295` if it is absent.
     pub fn handle_max_or_default(&self) -> u32

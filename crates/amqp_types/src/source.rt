@@ -76,8 +76,7 @@ use serde_amqp::derive::{
 
 impl Serialize for Source {
     ghost use Rattle.std.specs.Prelude.{[], ◌∷◌};
-    ghost use Rattle.amqp_ser.specs.Tree.{code};
-    ghost use Rattle.amqp_ser.specs.Words.{short_composite, optional_value, of_bool, of_u32};
+    ghost use Rattle.serde_amqp.specs.Derive.{code, short_composite, optional_value, of_bool, of_u32};
 
     ghost tree = { λ x. short_composite (code 0x28) (
         optional_value ⟦<Address as Serialize>⟧.tree x.address
@@ -144,7 +143,7 @@ type SourceFields = Optional<
 >;
 
 impl Record for Source {
-    ghost use Rattle.amqp_de.specs.Parts.{◌▸◌};
+    ghost use Rattle.serde_amqp.specs.Derive.{◌▸◌};
 
     type Values = <SourceFields as FieldSeeds>::Values;
 
@@ -153,7 +152,7 @@ impl Record for Source {
 
 impl Composite for Source {
     ghost use Rattle.std.specs.Prelude.{codes};
-    ghost use Rattle.amqp_de.specs.Fields.{OnFields, ReadsOptional, NoMoreFields};
+    ghost use Rattle.serde_amqp.specs.Derive.{OnFields, ReadsOptional, NoMoreFields};
 
     ghost descriptor_code = { 0x28 };
 
@@ -324,8 +323,7 @@ impl Composite for Source {
 
 impl Deserialize for Source {
     ghost use Rattle.std.specs.Prelude.{codes};
-    ghost use Rattle.amqp_ser.specs.Tree.{code, described};
-    ghost use Rattle.amqp_de.specs.Composites.{OnComposite};
+    ghost use Rattle.serde_amqp.specs.Derive.{code, described, OnComposite};
 
     ghost reads = { λ t x. OnComposite 0x28 (codes "amqp:source:list") (λ u. ⟦<Source as Composite>⟧.reads u x) t };
 
@@ -364,7 +362,7 @@ impl RoundTrip for Source {
 
 impl Source {
     ghost use Rattle.std.specs.Prelude.{◌≡◌, false};
-    ghost use Rattle.amqp_de.specs.Defaults.{value_or};
+    ghost use Rattle.serde_amqp.specs.Derive.{value_or};
 
     /// Returns `timeout`, or `0` if it is absent.
     pub fn timeout_or_default(&self) -> u32

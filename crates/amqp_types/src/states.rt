@@ -58,7 +58,7 @@ use serde_amqp::derive::{
 };
 
 impl Record for Outcome {
-    ghost use Rattle.amqp_de.specs.declared.enums.variants.Either.TheVariants.{This, Other};
+    ghost use Rattle.serde_amqp.specs.Derive.{This, Other};
     ghost use Rattle.amqp_types.specs.declared.states.Outcome.TheVariants as variant;
 
     type Values = Either<
@@ -85,8 +85,7 @@ impl Serialize for Outcome {
 }
 
 impl Deserialize for Outcome {
-    ghost use Rattle.amqp_ser.specs.Tree.{code, described};
-    ghost use Rattle.amqp_de.specs.Composites.{OnAlternatives};
+    ghost use Rattle.serde_amqp.specs.Derive.{code, described, OnAlternatives};
 
     ghost reads = { λ t x. OnAlternatives ⟦<Either<Accepted, Either<Rejected, Either<Released, Either<Modified, Either<Declared, Unknown>>>>> as Alternatives>⟧.reads t (⟦<Outcome as Record>⟧.parts x) };
 
@@ -143,7 +142,7 @@ impl RoundTrip for Outcome {
 }
 
 impl Record for DeliveryState {
-    ghost use Rattle.amqp_de.specs.declared.enums.variants.Either.TheVariants.{This, Other};
+    ghost use Rattle.serde_amqp.specs.Derive.{This, Other};
     ghost use Rattle.amqp_types.specs.declared.states.DeliveryState.TheVariants as variant;
 
     type Values = Either<
@@ -181,8 +180,7 @@ impl Serialize for DeliveryState {
 }
 
 impl Deserialize for DeliveryState {
-    ghost use Rattle.amqp_ser.specs.Tree.{code, described};
-    ghost use Rattle.amqp_de.specs.Composites.{OnAlternatives};
+    ghost use Rattle.serde_amqp.specs.Derive.{code, described, OnAlternatives};
 
     ghost reads = { λ t x. OnAlternatives ⟦<Either<Received, Either<Accepted, Either<Rejected, Either<Released, Either<Modified, Either<Declared, Either<TransactionalState, Unknown>>>>>>> as Alternatives>⟧.reads t (⟦<DeliveryState as Record>⟧.parts x) };
 

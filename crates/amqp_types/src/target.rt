@@ -67,8 +67,7 @@ use serde_amqp::derive::{
 
 impl Serialize for Target {
     ghost use Rattle.std.specs.Prelude.{[], ◌∷◌};
-    ghost use Rattle.amqp_ser.specs.Tree.{code};
-    ghost use Rattle.amqp_ser.specs.Words.{short_composite, optional_value, of_bool, of_u32};
+    ghost use Rattle.serde_amqp.specs.Derive.{code, short_composite, optional_value, of_bool, of_u32};
 
     ghost tree = { λ x. short_composite (code 0x29) (
         optional_value ⟦<Address as Serialize>⟧.tree x.address
@@ -112,7 +111,7 @@ type TargetFields = Optional<
 >;
 
 impl Record for Target {
-    ghost use Rattle.amqp_de.specs.Parts.{◌▸◌};
+    ghost use Rattle.serde_amqp.specs.Derive.{◌▸◌};
 
     type Values = <TargetFields as FieldSeeds>::Values;
 
@@ -121,7 +120,7 @@ impl Record for Target {
 
 impl Composite for Target {
     ghost use Rattle.std.specs.Prelude.{codes};
-    ghost use Rattle.amqp_de.specs.Fields.{OnFields, ReadsOptional, NoMoreFields};
+    ghost use Rattle.serde_amqp.specs.Derive.{OnFields, ReadsOptional, NoMoreFields};
 
     ghost descriptor_code = { 0x29 };
 
@@ -248,8 +247,7 @@ impl Composite for Target {
 
 impl Deserialize for Target {
     ghost use Rattle.std.specs.Prelude.{codes};
-    ghost use Rattle.amqp_ser.specs.Tree.{code, described};
-    ghost use Rattle.amqp_de.specs.Composites.{OnComposite};
+    ghost use Rattle.serde_amqp.specs.Derive.{code, described, OnComposite};
 
     ghost reads = { λ t x. OnComposite 0x29 (codes "amqp:target:list") (λ u. ⟦<Target as Composite>⟧.reads u x) t };
 
@@ -288,7 +286,7 @@ impl RoundTrip for Target {
 
 impl Target {
     ghost use Rattle.std.specs.Prelude.{◌≡◌, false};
-    ghost use Rattle.amqp_de.specs.Defaults.{value_or};
+    ghost use Rattle.serde_amqp.specs.Derive.{value_or};
 
     /// Returns `timeout`, or `0` if it is absent.
     pub fn timeout_or_default(&self) -> u32

@@ -53,7 +53,7 @@ use serde_amqp::derive::{
 
 impl Serialize for TerminusDurability {
     ghost use Rattle.std.specs.Prelude.{Some, ℕ};
-    ghost use Rattle.amqp_ser.specs.Tree.{scalar, uint};
+    ghost use Rattle.serde_amqp.specs.Derive.{scalar, uint};
     ghost use Rattle.amqp_types.specs.declared.terminus.TerminusDurability.TheVariants as variant;
 
     ghost tree = { λ x. Some (scalar (uint (elim x as (λ _. ℕ) [ variant.None ↦ 0 | variant.Configuration ↦ 1 | variant.UnsettledState ↦ 2 ]))) };
@@ -69,8 +69,7 @@ impl Serialize for TerminusDurability {
 
 impl Deserialize for TerminusDurability {
     ghost use Rattle.std.specs.Prelude.{◌≡◌, ℕ};
-    ghost use Rattle.amqp_ser.specs.Tree.{scalar, uint};
-    ghost use Rattle.amqp_de.specs.Reads.{Always};
+    ghost use Rattle.serde_amqp.specs.Derive.{scalar, uint, Always};
     ghost use Rattle.amqp_types.specs.declared.terminus.TerminusDurability.TheVariants as variant;
 
     ghost reads = { λ t x. t ≡ scalar (uint (elim x as (λ _. ℕ) [ variant.None ↦ 0 | variant.Configuration ↦ 1 | variant.UnsettledState ↦ 2 ])) };
@@ -131,7 +130,7 @@ impl TerminusExpiryPolicy {
 
 impl Serialize for TerminusExpiryPolicy {
     ghost use Rattle.std.specs.Prelude.{Some, List, ℕ, codes};
-    ghost use Rattle.amqp_ser.specs.Tree.{scalar, symbol};
+    ghost use Rattle.serde_amqp.specs.Derive.{scalar, symbol};
     ghost use Rattle.amqp_types.specs.declared.terminus.TerminusExpiryPolicy.TheVariants as variant;
 
     ghost tree = { λ x. Some (scalar (symbol (elim x as (λ _. List ℕ) [ variant.LinkDetach ↦ codes "link-detach" | variant.SessionEnd ↦ codes "session-end" | variant.ConnectionClose ↦ codes "connection-close" | variant.Never ↦ codes "never" ]))) };
@@ -143,8 +142,7 @@ impl Serialize for TerminusExpiryPolicy {
 
 impl Deserialize for TerminusExpiryPolicy {
     ghost use Rattle.std.specs.Prelude.{◌≡◌, List, ℕ, codes};
-    ghost use Rattle.amqp_ser.specs.Tree.{scalar, symbol};
-    ghost use Rattle.amqp_de.specs.Reads.{Always};
+    ghost use Rattle.serde_amqp.specs.Derive.{scalar, symbol, Always};
     ghost use Rattle.amqp_types.specs.declared.terminus.TerminusExpiryPolicy.TheVariants as variant;
 
     ghost reads = { λ t x. t ≡ scalar (symbol (elim x as (λ _. List ℕ) [ variant.LinkDetach ↦ codes "link-detach" | variant.SessionEnd ↦ codes "session-end" | variant.ConnectionClose ↦ codes "connection-close" | variant.Never ↦ codes "never" ])) };
@@ -225,7 +223,7 @@ impl DistributionMode {
 
 impl Serialize for DistributionMode {
     ghost use Rattle.std.specs.Prelude.{Some, List, ℕ, codes};
-    ghost use Rattle.amqp_ser.specs.Tree.{scalar, symbol};
+    ghost use Rattle.serde_amqp.specs.Derive.{scalar, symbol};
     ghost use Rattle.amqp_types.specs.declared.terminus.DistributionMode.TheVariants as variant;
 
     ghost tree = { λ x. Some (scalar (symbol (elim x as (λ _. List ℕ) [ variant.Move ↦ codes "move" | variant.Copy ↦ codes "copy" ]))) };
@@ -237,8 +235,7 @@ impl Serialize for DistributionMode {
 
 impl Deserialize for DistributionMode {
     ghost use Rattle.std.specs.Prelude.{◌≡◌, List, ℕ, codes};
-    ghost use Rattle.amqp_ser.specs.Tree.{scalar, symbol};
-    ghost use Rattle.amqp_de.specs.Reads.{Always};
+    ghost use Rattle.serde_amqp.specs.Derive.{scalar, symbol, Always};
     ghost use Rattle.amqp_types.specs.declared.terminus.DistributionMode.TheVariants as variant;
 
     ghost reads = { λ t x. t ≡ scalar (symbol (elim x as (λ _. List ℕ) [ variant.Move ↦ codes "move" | variant.Copy ↦ codes "copy" ])) };

@@ -62,8 +62,7 @@ use serde_amqp::derive::{
 
 impl Serialize for Declare {
     ghost use Rattle.std.specs.Prelude.{[], ◌∷◌};
-    ghost use Rattle.amqp_ser.specs.Tree.{code};
-    ghost use Rattle.amqp_ser.specs.Words.{short_composite, optional_value};
+    ghost use Rattle.serde_amqp.specs.Derive.{code, short_composite, optional_value};
 
     ghost tree = { λ x. short_composite (code 0x31) (
         optional_value ⟦<Value as Serialize>⟧.tree x.global_id
@@ -83,7 +82,7 @@ impl Serialize for Declare {
 type DeclareFields = Optional<Value, ()>;
 
 impl Record for Declare {
-    ghost use Rattle.amqp_de.specs.Parts.{◌▸◌};
+    ghost use Rattle.serde_amqp.specs.Derive.{◌▸◌};
 
     type Values = <DeclareFields as FieldSeeds>::Values;
 
@@ -92,7 +91,7 @@ impl Record for Declare {
 
 impl Composite for Declare {
     ghost use Rattle.std.specs.Prelude.{codes};
-    ghost use Rattle.amqp_de.specs.Fields.{OnFields, ReadsOptional, NoMoreFields};
+    ghost use Rattle.serde_amqp.specs.Derive.{OnFields, ReadsOptional, NoMoreFields};
 
     ghost descriptor_code = { 0x31 };
 
@@ -141,8 +140,7 @@ impl Composite for Declare {
 
 impl Deserialize for Declare {
     ghost use Rattle.std.specs.Prelude.{codes};
-    ghost use Rattle.amqp_ser.specs.Tree.{code, described};
-    ghost use Rattle.amqp_de.specs.Composites.{OnComposite};
+    ghost use Rattle.serde_amqp.specs.Derive.{code, described, OnComposite};
 
     ghost reads = { λ t x. OnComposite 0x31 (codes "amqp:declare:list") (λ u. ⟦<Declare as Composite>⟧.reads u x) t };
 
@@ -181,8 +179,7 @@ impl RoundTrip for Declare {
 
 impl Serialize for Discharge {
     ghost use Rattle.std.specs.Prelude.{[], ◌∷◌};
-    ghost use Rattle.amqp_ser.specs.Tree.{code};
-    ghost use Rattle.amqp_ser.specs.Words.{short_composite, required_value, optional_value, of_binary, of_bool};
+    ghost use Rattle.serde_amqp.specs.Derive.{code, short_composite, required_value, optional_value, of_binary, of_bool};
 
     ghost tree = { λ x. short_composite (code 0x32) (
         required_value (of_binary x.txn_id)
@@ -204,7 +201,7 @@ impl Serialize for Discharge {
 type DischargeFields = Required<ByteBuf, Optional<bool, ()>>;
 
 impl Record for Discharge {
-    ghost use Rattle.amqp_de.specs.Parts.{◌▸◌};
+    ghost use Rattle.serde_amqp.specs.Derive.{◌▸◌};
 
     type Values = <DischargeFields as FieldSeeds>::Values;
 
@@ -213,7 +210,7 @@ impl Record for Discharge {
 
 impl Composite for Discharge {
     ghost use Rattle.std.specs.Prelude.{codes};
-    ghost use Rattle.amqp_de.specs.Fields.{OnFields, ReadsRequired, ReadsOptional, NoMoreFields};
+    ghost use Rattle.serde_amqp.specs.Derive.{OnFields, ReadsRequired, ReadsOptional, NoMoreFields};
 
     ghost descriptor_code = { 0x32 };
 
@@ -271,8 +268,7 @@ impl Composite for Discharge {
 
 impl Deserialize for Discharge {
     ghost use Rattle.std.specs.Prelude.{codes};
-    ghost use Rattle.amqp_ser.specs.Tree.{code, described};
-    ghost use Rattle.amqp_de.specs.Composites.{OnComposite};
+    ghost use Rattle.serde_amqp.specs.Derive.{code, described, OnComposite};
 
     ghost reads = { λ t x. OnComposite 0x32 (codes "amqp:discharge:list") (λ u. ⟦<Discharge as Composite>⟧.reads u x) t };
 
@@ -311,8 +307,7 @@ impl RoundTrip for Discharge {
 
 impl Serialize for Declared {
     ghost use Rattle.std.specs.Prelude.{[], ◌∷◌};
-    ghost use Rattle.amqp_ser.specs.Tree.{code};
-    ghost use Rattle.amqp_ser.specs.Words.{short_composite, required_value, of_binary};
+    ghost use Rattle.serde_amqp.specs.Derive.{code, short_composite, required_value, of_binary};
 
     ghost tree = { λ x. short_composite (code 0x33) (
         required_value (of_binary x.txn_id)
@@ -332,7 +327,7 @@ impl Serialize for Declared {
 type DeclaredFields = Required<ByteBuf, ()>;
 
 impl Record for Declared {
-    ghost use Rattle.amqp_de.specs.Parts.{◌▸◌};
+    ghost use Rattle.serde_amqp.specs.Derive.{◌▸◌};
 
     type Values = <DeclaredFields as FieldSeeds>::Values;
 
@@ -341,7 +336,7 @@ impl Record for Declared {
 
 impl Composite for Declared {
     ghost use Rattle.std.specs.Prelude.{codes};
-    ghost use Rattle.amqp_de.specs.Fields.{OnFields, ReadsRequired, NoMoreFields};
+    ghost use Rattle.serde_amqp.specs.Derive.{OnFields, ReadsRequired, NoMoreFields};
 
     ghost descriptor_code = { 0x33 };
 
@@ -390,8 +385,7 @@ impl Composite for Declared {
 
 impl Deserialize for Declared {
     ghost use Rattle.std.specs.Prelude.{codes};
-    ghost use Rattle.amqp_ser.specs.Tree.{code, described};
-    ghost use Rattle.amqp_de.specs.Composites.{OnComposite};
+    ghost use Rattle.serde_amqp.specs.Derive.{code, described, OnComposite};
 
     ghost reads = { λ t x. OnComposite 0x33 (codes "amqp:declared:list") (λ u. ⟦<Declared as Composite>⟧.reads u x) t };
 
@@ -430,8 +424,7 @@ impl RoundTrip for Declared {
 
 impl Serialize for TransactionalState {
     ghost use Rattle.std.specs.Prelude.{[], ◌∷◌};
-    ghost use Rattle.amqp_ser.specs.Tree.{code};
-    ghost use Rattle.amqp_ser.specs.Words.{short_composite, required_value, optional_value, of_binary};
+    ghost use Rattle.serde_amqp.specs.Derive.{code, short_composite, required_value, optional_value, of_binary};
 
     ghost tree = { λ x. short_composite (code 0x34) (
         required_value (of_binary x.txn_id)
@@ -453,7 +446,7 @@ impl Serialize for TransactionalState {
 type TransactionalStateFields = Required<ByteBuf, Optional<Outcome, ()>>;
 
 impl Record for TransactionalState {
-    ghost use Rattle.amqp_de.specs.Parts.{◌▸◌};
+    ghost use Rattle.serde_amqp.specs.Derive.{◌▸◌};
 
     type Values = <TransactionalStateFields as FieldSeeds>::Values;
 
@@ -462,7 +455,7 @@ impl Record for TransactionalState {
 
 impl Composite for TransactionalState {
     ghost use Rattle.std.specs.Prelude.{codes};
-    ghost use Rattle.amqp_de.specs.Fields.{OnFields, ReadsRequired, ReadsOptional, NoMoreFields};
+    ghost use Rattle.serde_amqp.specs.Derive.{OnFields, ReadsRequired, ReadsOptional, NoMoreFields};
 
     ghost descriptor_code = { 0x34 };
 
@@ -527,8 +520,7 @@ impl Composite for TransactionalState {
 
 impl Deserialize for TransactionalState {
     ghost use Rattle.std.specs.Prelude.{codes};
-    ghost use Rattle.amqp_ser.specs.Tree.{code, described};
-    ghost use Rattle.amqp_de.specs.Composites.{OnComposite};
+    ghost use Rattle.serde_amqp.specs.Derive.{code, described, OnComposite};
 
     ghost reads = { λ t x. OnComposite 0x34 (codes "amqp:transactional-state:list") (λ u. ⟦<TransactionalState as Composite>⟧.reads u x) t };
 

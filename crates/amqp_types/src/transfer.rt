@@ -49,8 +49,7 @@ use serde_amqp::derive::{
 
 impl Serialize for Transfer {
     ghost use Rattle.std.specs.Prelude.{[], ◌∷◌};
-    ghost use Rattle.amqp_ser.specs.Tree.{code};
-    ghost use Rattle.amqp_ser.specs.Words.{short_composite, required_value, optional_value, of_binary, of_bool, of_u32};
+    ghost use Rattle.serde_amqp.specs.Derive.{code, short_composite, required_value, optional_value, of_binary, of_bool, of_u32};
 
     ghost tree = { λ x. short_composite (code 0x14) (
         required_value (of_u32 x.handle)
@@ -114,7 +113,7 @@ type TransferFields = Required<
 >;
 
 impl Record for Transfer {
-    ghost use Rattle.amqp_de.specs.Parts.{◌▸◌};
+    ghost use Rattle.serde_amqp.specs.Derive.{◌▸◌};
 
     type Values = <TransferFields as FieldSeeds>::Values;
 
@@ -123,7 +122,7 @@ impl Record for Transfer {
 
 impl Composite for Transfer {
     ghost use Rattle.std.specs.Prelude.{codes};
-    ghost use Rattle.amqp_de.specs.Fields.{OnFields, ReadsRequired, ReadsOptional, NoMoreFields};
+    ghost use Rattle.serde_amqp.specs.Derive.{OnFields, ReadsRequired, ReadsOptional, NoMoreFields};
 
     ghost descriptor_code = { 0x14 };
 
@@ -282,8 +281,7 @@ impl Composite for Transfer {
 
 impl Deserialize for Transfer {
     ghost use Rattle.std.specs.Prelude.{codes};
-    ghost use Rattle.amqp_ser.specs.Tree.{code, described};
-    ghost use Rattle.amqp_de.specs.Composites.{OnComposite};
+    ghost use Rattle.serde_amqp.specs.Derive.{code, described, OnComposite};
 
     ghost reads = { λ t x. OnComposite 0x14 (codes "amqp:transfer:list") (λ u. ⟦<Transfer as Composite>⟧.reads u x) t };
 
@@ -322,7 +320,7 @@ impl RoundTrip for Transfer {
 
 impl Transfer {
     ghost use Rattle.std.specs.Prelude.{◌≡◌, false};
-    ghost use Rattle.amqp_de.specs.Defaults.{value_or};
+    ghost use Rattle.serde_amqp.specs.Derive.{value_or};
 
     /// Returns `more`, or `false` if it is absent.
     pub fn more_or_default(&self) -> bool

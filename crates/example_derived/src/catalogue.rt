@@ -43,9 +43,7 @@ use serde_amqp::derive::{
 
 impl Serialize for Product {
     ghost use Rattle.std.specs.Prelude.{Some, [], ◌∷◌, codes};
-    ghost use Rattle.amqp_ser.specs.Composites.{as_described};
-    ghost use Rattle.amqp_ser.specs.Tree.{code};
-    ghost use Rattle.amqp_ser.specs.Words.{short_map_of, required_value, optional_value, of_string, of_symbol, of_u16, of_u32, of_u64};
+    ghost use Rattle.serde_amqp.specs.Derive.{as_described, code, short_map_of, required_value, optional_value, of_string, of_symbol, of_u16, of_u32, of_u64};
 
     ghost tree = { λ x. as_described (Some (code 0x15)) (short_map_of (
         (codes "product-name", required_value (of_string x.product_name))
@@ -86,7 +84,7 @@ type ProductFields = Required<
 >;
 
 impl Record for Product {
-    ghost use Rattle.amqp_de.specs.Parts.{◌▸◌};
+    ghost use Rattle.serde_amqp.specs.Derive.{◌▸◌};
 
     type Values = <ProductFields as FieldSeeds>::Values;
 
@@ -103,10 +101,7 @@ impl NamedRecord for Product {
 
 impl Deserialize for Product {
     ghost use Rattle.std.specs.Prelude.{codes};
-    ghost use Rattle.amqp_ser.specs.Tree.{code, described};
-    ghost use Rattle.amqp_de.specs.Fields.{OnDescribed, OnNamed, ReadsRequired, ReadsOptional, NoMoreFields};
-    ghost use Rattle.amqp_de.specs.Defaults.{ReadsDefaulted};
-    ghost use Rattle.amqp_de.specs.Present.{short_map};
+    ghost use Rattle.serde_amqp.specs.Derive.{code, described, OnDescribed, OnNamed, ReadsRequired, ReadsOptional, NoMoreFields, ReadsDefaulted, short_map};
 
     ghost reads = { λ t x. OnDescribed (code 0x15) (OnNamed (
         ReadsRequired (codes "product-name") ⟦<String as Deserialize>⟧.reads x.product_name (
@@ -170,7 +165,7 @@ impl RoundTrip for Product {
 
 impl Product {
     ghost use Rattle.std.specs.Prelude.{◌≡◌};
-    ghost use Rattle.amqp_de.specs.Defaults.{value_or};
+    ghost use Rattle.serde_amqp.specs.Derive.{value_or};
 
     /// Returns `size`, or `1` if it is absent.
     pub fn size_or_default(&self) -> u64
@@ -185,7 +180,7 @@ impl Product {
 
 impl Serialize for Contact {
     ghost use Rattle.std.specs.Prelude.{[], ◌∷◌, codes};
-    ghost use Rattle.amqp_ser.specs.Words.{short_map_of, required_value, optional_value, of_string};
+    ghost use Rattle.serde_amqp.specs.Derive.{short_map_of, required_value, optional_value, of_string};
 
     ghost tree = { λ x. short_map_of (
         (codes "name", required_value (of_string x.name))
@@ -205,7 +200,7 @@ impl Serialize for Contact {
 type ContactFields = Required<String, Optional<String, ()>>;
 
 impl Record for Contact {
-    ghost use Rattle.amqp_de.specs.Parts.{◌▸◌};
+    ghost use Rattle.serde_amqp.specs.Derive.{◌▸◌};
 
     type Values = <ContactFields as FieldSeeds>::Values;
 
@@ -222,8 +217,7 @@ impl NamedRecord for Contact {
 
 impl Deserialize for Contact {
     ghost use Rattle.std.specs.Prelude.{codes};
-    ghost use Rattle.amqp_de.specs.Fields.{OnNamed, ReadsRequired, ReadsOptional, NoMoreFields};
-    ghost use Rattle.amqp_de.specs.Present.{short_map};
+    ghost use Rattle.serde_amqp.specs.Derive.{OnNamed, ReadsRequired, ReadsOptional, NoMoreFields, short_map};
 
     ghost reads = { λ t x. OnNamed (
         ReadsRequired (codes "name") ⟦<String as Deserialize>⟧.reads x.name (
@@ -258,9 +252,7 @@ impl RoundTrip for Contact {
 
 impl Serialize for Shop {
     ghost use Rattle.std.specs.Prelude.{Some, [], ◌∷◌, codes};
-    ghost use Rattle.amqp_ser.specs.Composites.{as_described};
-    ghost use Rattle.amqp_ser.specs.Tree.{name};
-    ghost use Rattle.amqp_ser.specs.Words.{short_map_of, required_value, optional_value, of_string, of_u32};
+    ghost use Rattle.serde_amqp.specs.Derive.{as_described, name, short_map_of, required_value, optional_value, of_string, of_u32};
 
     ghost tree = { λ x. as_described (Some (name (codes "shop:shop"))) (short_map_of (
         (codes "number", required_value (of_u32 x.number))
@@ -282,7 +274,7 @@ impl Serialize for Shop {
 type ShopFields = Required<u32, Optional<String, ()>>;
 
 impl Record for Shop {
-    ghost use Rattle.amqp_de.specs.Parts.{◌▸◌};
+    ghost use Rattle.serde_amqp.specs.Derive.{◌▸◌};
 
     type Values = <ShopFields as FieldSeeds>::Values;
 
@@ -299,9 +291,7 @@ impl NamedRecord for Shop {
 
 impl Deserialize for Shop {
     ghost use Rattle.std.specs.Prelude.{codes};
-    ghost use Rattle.amqp_ser.specs.Tree.{name, described};
-    ghost use Rattle.amqp_de.specs.Fields.{OnDescribed, OnNamed, ReadsRequired, ReadsOptional, NoMoreFields};
-    ghost use Rattle.amqp_de.specs.Present.{short_map};
+    ghost use Rattle.serde_amqp.specs.Derive.{name, described, OnDescribed, OnNamed, ReadsRequired, ReadsOptional, NoMoreFields, short_map};
 
     ghost reads = { λ t x. OnDescribed (name (codes "shop:shop")) (OnNamed (
         ReadsRequired (codes "number") ⟦<u32 as Deserialize>⟧.reads x.number (

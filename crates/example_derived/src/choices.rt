@@ -73,7 +73,7 @@ use serde_amqp::derive::{
 
 impl Serialize for Role {
     ghost use Rattle.std.specs.Prelude.{Some, Bool, true, false};
-    ghost use Rattle.amqp_ser.specs.Tree.{scalar, bool};
+    ghost use Rattle.serde_amqp.specs.Derive.{scalar, bool};
     ghost use Rattle.example_derived.specs.declared.choices.Role.TheVariants as variant;
 
     ghost tree = { λ x. Some (scalar (bool (elim x as (λ _. Bool) [ variant.Sender ↦ false | variant.Receiver ↦ true ]))) };
@@ -88,8 +88,7 @@ impl Serialize for Role {
 
 impl Deserialize for Role {
     ghost use Rattle.std.specs.Prelude.{◌≡◌, Bool, true, false};
-    ghost use Rattle.amqp_ser.specs.Tree.{scalar, bool};
-    ghost use Rattle.amqp_de.specs.Reads.{Always};
+    ghost use Rattle.serde_amqp.specs.Derive.{scalar, bool, Always};
     ghost use Rattle.example_derived.specs.declared.choices.Role.TheVariants as variant;
 
     ghost reads = { λ t x. t ≡ scalar (bool (elim x as (λ _. Bool) [ variant.Sender ↦ false | variant.Receiver ↦ true ])) };
@@ -128,7 +127,7 @@ impl RoundTrip for Role {
 
 impl Serialize for Durability {
     ghost use Rattle.std.specs.Prelude.{Some, ℕ};
-    ghost use Rattle.amqp_ser.specs.Tree.{scalar, uint};
+    ghost use Rattle.serde_amqp.specs.Derive.{scalar, uint};
     ghost use Rattle.example_derived.specs.declared.choices.Durability.TheVariants as variant;
 
     ghost tree = { λ x. Some (scalar (uint (elim x as (λ _. ℕ) [ variant.None ↦ 0 | variant.Configuration ↦ 1 | variant.UnsettledState ↦ 2 ]))) };
@@ -144,8 +143,7 @@ impl Serialize for Durability {
 
 impl Deserialize for Durability {
     ghost use Rattle.std.specs.Prelude.{◌≡◌, ℕ};
-    ghost use Rattle.amqp_ser.specs.Tree.{scalar, uint};
-    ghost use Rattle.amqp_de.specs.Reads.{Always};
+    ghost use Rattle.serde_amqp.specs.Derive.{scalar, uint, Always};
     ghost use Rattle.example_derived.specs.declared.choices.Durability.TheVariants as variant;
 
     ghost reads = { λ t x. t ≡ scalar (uint (elim x as (λ _. ℕ) [ variant.None ↦ 0 | variant.Configuration ↦ 1 | variant.UnsettledState ↦ 2 ])) };
@@ -205,7 +203,7 @@ impl Expiry {
 
 impl Serialize for Expiry {
     ghost use Rattle.std.specs.Prelude.{Some, List, ℕ, codes};
-    ghost use Rattle.amqp_ser.specs.Tree.{scalar, symbol};
+    ghost use Rattle.serde_amqp.specs.Derive.{scalar, symbol};
     ghost use Rattle.example_derived.specs.declared.choices.Expiry.TheVariants as variant;
 
     ghost tree = { λ x. Some (scalar (symbol (elim x as (λ _. List ℕ) [ variant.LinkDetach ↦ codes "link-detach" | variant.SessionEnd ↦ codes "session-end" | variant.Never ↦ codes "never" ]))) };
@@ -217,8 +215,7 @@ impl Serialize for Expiry {
 
 impl Deserialize for Expiry {
     ghost use Rattle.std.specs.Prelude.{◌≡◌, List, ℕ, codes};
-    ghost use Rattle.amqp_ser.specs.Tree.{scalar, symbol};
-    ghost use Rattle.amqp_de.specs.Reads.{Always};
+    ghost use Rattle.serde_amqp.specs.Derive.{scalar, symbol, Always};
     ghost use Rattle.example_derived.specs.declared.choices.Expiry.TheVariants as variant;
 
     ghost reads = { λ t x. t ≡ scalar (symbol (elim x as (λ _. List ℕ) [ variant.LinkDetach ↦ codes "link-detach" | variant.SessionEnd ↦ codes "session-end" | variant.Never ↦ codes "never" ])) };
@@ -275,8 +272,7 @@ impl RoundTrip for Expiry {
 
 impl Serialize for Address {
     ghost use Rattle.std.specs.Prelude.{Some, string_bytes};
-    ghost use Rattle.amqp_data.specs.Fixed.{uuid_bytes};
-    ghost use Rattle.amqp_ser.specs.Tree.{Scalar, scalar, ulong, uuid, string};
+    ghost use Rattle.serde_amqp.specs.Derive.{uuid_bytes, Scalar, scalar, ulong, uuid, string};
     ghost use Rattle.example_derived.specs.declared.choices.Address.TheVariants as variant;
 
     ghost tree = { λ x. Some (scalar (elim x as (λ _. Scalar) [ variant.Number v ↦ ulong v | variant.Text v ↦ string (string_bytes v) | variant.Id v ↦ uuid (uuid_bytes v) ])) };
@@ -292,9 +288,7 @@ impl Serialize for Address {
 
 impl Deserialize for Address {
     ghost use Rattle.std.specs.Prelude.{◌≡◌, string_bytes};
-    ghost use Rattle.amqp_data.specs.Fixed.{uuid_bytes};
-    ghost use Rattle.amqp_ser.specs.Tree.{Scalar, scalar, ulong, uuid, string};
-    ghost use Rattle.amqp_de.specs.Reads.{Always};
+    ghost use Rattle.serde_amqp.specs.Derive.{uuid_bytes, Scalar, scalar, ulong, uuid, string, Always};
     ghost use Rattle.example_derived.specs.declared.choices.Address.TheVariants as variant;
 
     ghost reads = { λ t x. t ≡ scalar (elim x as (λ _. Scalar) [ variant.Number v ↦ ulong v | variant.Text v ↦ string (string_bytes v) | variant.Id v ↦ uuid (uuid_bytes v) ]) };
@@ -346,16 +340,12 @@ impl MapKey for Address {
 
 impl Serialize for Shape {
     ghost use Rattle.std.specs.Prelude.{[], ◌∷◌, Option};
-    ghost use Rattle.amqp_ser.specs.Carried.{optional};
-    ghost use Rattle.amqp_ser.specs.Compounds.{tree_of_parts};
-    ghost use Rattle.amqp_ser.specs.Tree.{Tree};
-    ghost use Rattle.amqp_ser.specs.Words.{variant_of, of_string, of_symbol, of_u16, of_u32};
-    ghost use Rattle.amqp_ser.specs.declared.kind.CompoundKind.TheVariants as kind;
+    ghost use Rattle.serde_amqp.specs.Derive.{optional, tree_of_parts, Tree, variant_of, of_string, of_symbol, of_u16, of_u32, NewtypeVariant};
     ghost use Rattle.example_derived.specs.declared.choices.Shape.TheVariants as variant;
 
     ghost tree = { λ x. elim x as (λ _. Option Tree) [
       | variant.Point ↦ of_u32 0
-      | variant.Circle v0 ↦ tree_of_parts (kind.NewtypeVariant 1) (of_u32 v0 ∷ [])
+      | variant.Circle v0 ↦ tree_of_parts (NewtypeVariant 1) (of_u32 v0 ∷ [])
       | variant.Box v0 v1 ↦ variant_of 2 (of_u16 v0
           ∷ of_u16 v1
           ∷ [])
@@ -402,8 +392,7 @@ type ShapeVariants = UnitVariant<
 >;
 
 impl Record for Shape {
-    ghost use Rattle.amqp_de.specs.Parts.{◌▸◌};
-    ghost use Rattle.amqp_de.specs.declared.enums.variants.Either.TheVariants.{This, Other};
+    ghost use Rattle.serde_amqp.specs.Derive.{◌▸◌, This, Other};
     ghost use Rattle.example_derived.specs.declared.choices.Shape.TheVariants as variant;
 
     type Values = Either<
@@ -422,8 +411,7 @@ impl Record for Shape {
 
 impl Deserialize for Shape {
     ghost use Rattle.std.specs.Prelude.{codes};
-    ghost use Rattle.amqp_de.specs.Fields.{OnFields, ReadsRequired, ReadsOptional, NoMoreFields};
-    ghost use Rattle.amqp_de.specs.Enums.{OnEnum, IsUnitVariant, IsDataVariant, IsNoVariant};
+    ghost use Rattle.serde_amqp.specs.Derive.{OnFields, ReadsRequired, ReadsOptional, NoMoreFields, OnEnum, IsUnitVariant, IsDataVariant, IsNoVariant};
 
     ghost reads = { λ t x. OnEnum (
         IsUnitVariant (
@@ -483,7 +471,7 @@ impl RoundTrip for Shape {
 }
 
 impl Serialize for DeliveryNumber {
-    ghost use Rattle.amqp_ser.specs.Words.{of_u32};
+    ghost use Rattle.serde_amqp.specs.Derive.{of_u32};
 
     ghost tree = { λ x. of_u32 x.0 };
 
@@ -537,8 +525,7 @@ impl MapKey for DeliveryNumber {
 }
 
 impl Serialize for Tag {
-    ghost use Rattle.amqp_ser.specs.Tree.{code};
-    ghost use Rattle.amqp_ser.specs.Words.{basic_composite, of_binary};
+    ghost use Rattle.serde_amqp.specs.Derive.{code, basic_composite, of_binary};
 
     ghost tree = { λ x. basic_composite (code 0x1a) (of_binary x.0) };
 
@@ -595,8 +582,7 @@ impl Composite for Tag {
 
 impl Deserialize for Tag {
     ghost use Rattle.std.specs.Prelude.{codes};
-    ghost use Rattle.amqp_ser.specs.Tree.{code, described};
-    ghost use Rattle.amqp_de.specs.Composites.{OnComposite};
+    ghost use Rattle.serde_amqp.specs.Derive.{code, described, OnComposite};
 
     ghost reads = { λ t x. OnComposite 0x1a (codes "shop:tag") (λ u. ⟦<Tag as Composite>⟧.reads u x) t };
 

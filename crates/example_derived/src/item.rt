@@ -38,8 +38,7 @@ use serde_amqp::derive::{
 
 impl Serialize for Item {
     ghost use Rattle.std.specs.Prelude.{[], ◌∷◌, codes};
-    ghost use Rattle.amqp_ser.specs.Tree.{name};
-    ghost use Rattle.amqp_ser.specs.Words.{short_composite, required_value, optional_value, of_bool, of_string, of_symbol, of_timestamp, of_u16, of_u32, of_u64, of_u8, of_uuid};
+    ghost use Rattle.serde_amqp.specs.Derive.{name, short_composite, required_value, optional_value, of_bool, of_string, of_symbol, of_timestamp, of_u16, of_u32, of_u64, of_u8, of_uuid};
 
     ghost tree = { λ x. short_composite (name (codes "shop:item")) (
         required_value (of_uuid x.id)
@@ -154,7 +153,7 @@ type ItemFields = Required<
 >;
 
 impl Record for Item {
-    ghost use Rattle.amqp_de.specs.Parts.{◌▸◌};
+    ghost use Rattle.serde_amqp.specs.Derive.{◌▸◌};
 
     type Values = <ItemFields as FieldSeeds>::Values;
 
@@ -163,9 +162,7 @@ impl Record for Item {
 
 impl Deserialize for Item {
     ghost use Rattle.std.specs.Prelude.{codes};
-    ghost use Rattle.amqp_ser.specs.Tree.{name, described};
-    ghost use Rattle.amqp_de.specs.Fields.{OnDescribed, OnFields, ReadsRequired, ReadsOptional, NoMoreFields};
-    ghost use Rattle.amqp_de.specs.Defaults.{ReadsDefaulted};
+    ghost use Rattle.serde_amqp.specs.Derive.{name, described, OnDescribed, OnFields, ReadsRequired, ReadsOptional, NoMoreFields, ReadsDefaulted};
 
     ghost reads = { λ t x. OnDescribed (name (codes "shop:item")) (OnFields (
         ReadsRequired (codes "id") ⟦<Uuid as Deserialize>⟧.reads x.id (

@@ -21,8 +21,7 @@ use serde_amqp::derive::{
 
 impl Serialize for Limits {
     ghost use Rattle.std.specs.Prelude.{[], ◌∷◌};
-    ghost use Rattle.amqp_ser.specs.Tree.{code};
-    ghost use Rattle.amqp_ser.specs.Words.{short_composite, required_value, optional_value, of_u16};
+    ghost use Rattle.serde_amqp.specs.Derive.{code, short_composite, required_value, optional_value, of_u16};
 
     ghost tree = { λ x. short_composite (code 0x19) (
         optional_value ⟦<Multiple<Symbol> as Serialize>⟧.tree x.mechanisms
@@ -44,7 +43,7 @@ impl Serialize for Limits {
 type LimitsFields = Optional<Multiple<Symbol>, Defaulted<u16, ()>>;
 
 impl Record for Limits {
-    ghost use Rattle.amqp_de.specs.Parts.{◌▸◌};
+    ghost use Rattle.serde_amqp.specs.Derive.{◌▸◌};
 
     type Values = <LimitsFields as FieldSeeds>::Values;
 
@@ -53,9 +52,7 @@ impl Record for Limits {
 
 impl Deserialize for Limits {
     ghost use Rattle.std.specs.Prelude.{codes};
-    ghost use Rattle.amqp_ser.specs.Tree.{code, described};
-    ghost use Rattle.amqp_de.specs.Fields.{OnDescribed, OnFields, ReadsOptional, NoMoreFields};
-    ghost use Rattle.amqp_de.specs.Defaults.{ReadsDefaulted};
+    ghost use Rattle.serde_amqp.specs.Derive.{code, described, OnDescribed, OnFields, ReadsOptional, NoMoreFields, ReadsDefaulted};
 
     ghost reads = { λ t x. OnDescribed (code 0x19) (OnFields (
         ReadsOptional (codes "mechanisms") ⟦<Multiple<Symbol> as Deserialize>⟧.reads x.mechanisms (

@@ -53,8 +53,7 @@ use serde_amqp::derive::{
 
 impl Serialize for Accepted {
     ghost use Rattle.std.specs.Prelude.{[]};
-    ghost use Rattle.amqp_ser.specs.Tree.{code};
-    ghost use Rattle.amqp_ser.specs.Words.{short_composite};
+    ghost use Rattle.serde_amqp.specs.Derive.{code, short_composite};
 
     ghost tree = { λ _. short_composite (code 0x24) [] };
 
@@ -74,7 +73,7 @@ impl Record for Accepted {
 
 impl Composite for Accepted {
     ghost use Rattle.std.specs.Prelude.{codes};
-    ghost use Rattle.amqp_de.specs.Fields.{OnFields, NoMoreFields};
+    ghost use Rattle.serde_amqp.specs.Derive.{OnFields, NoMoreFields};
 
     ghost descriptor_code = { 0x24 };
 
@@ -115,8 +114,7 @@ impl Composite for Accepted {
 
 impl Deserialize for Accepted {
     ghost use Rattle.std.specs.Prelude.{codes};
-    ghost use Rattle.amqp_ser.specs.Tree.{code, described};
-    ghost use Rattle.amqp_de.specs.Composites.{OnComposite};
+    ghost use Rattle.serde_amqp.specs.Derive.{code, described, OnComposite};
 
     ghost reads = { λ t x. OnComposite 0x24 (codes "amqp:accepted:list") (λ u. ⟦<Accepted as Composite>⟧.reads u x) t };
 
@@ -155,8 +153,7 @@ impl RoundTrip for Accepted {
 
 impl Serialize for Failure {
     ghost use Rattle.std.specs.Prelude.{[], ◌∷◌};
-    ghost use Rattle.amqp_ser.specs.Tree.{code};
-    ghost use Rattle.amqp_ser.specs.Words.{short_composite, required_value, optional_value, of_string, of_symbol};
+    ghost use Rattle.serde_amqp.specs.Derive.{code, short_composite, required_value, optional_value, of_string, of_symbol};
 
     ghost tree = { λ x. short_composite (code 0x1d) (
         required_value (of_symbol x.condition)
@@ -180,7 +177,7 @@ impl Serialize for Failure {
 type FailureFields = Required<Symbol, Optional<String, Optional<OrderedMap<Symbol, Value>, ()>>>;
 
 impl Record for Failure {
-    ghost use Rattle.amqp_de.specs.Parts.{◌▸◌};
+    ghost use Rattle.serde_amqp.specs.Derive.{◌▸◌};
 
     type Values = <FailureFields as FieldSeeds>::Values;
 
@@ -189,7 +186,7 @@ impl Record for Failure {
 
 impl Composite for Failure {
     ghost use Rattle.std.specs.Prelude.{codes};
-    ghost use Rattle.amqp_de.specs.Fields.{OnFields, ReadsRequired, ReadsOptional, NoMoreFields};
+    ghost use Rattle.serde_amqp.specs.Derive.{OnFields, ReadsRequired, ReadsOptional, NoMoreFields};
 
     ghost descriptor_code = { 0x1d };
 
@@ -268,8 +265,7 @@ impl Composite for Failure {
 
 impl Deserialize for Failure {
     ghost use Rattle.std.specs.Prelude.{codes};
-    ghost use Rattle.amqp_ser.specs.Tree.{code, described};
-    ghost use Rattle.amqp_de.specs.Composites.{OnComposite};
+    ghost use Rattle.serde_amqp.specs.Derive.{code, described, OnComposite};
 
     ghost reads = { λ t x. OnComposite 0x1d (codes "amqp:error:list") (λ u. ⟦<Failure as Composite>⟧.reads u x) t };
 
@@ -308,8 +304,7 @@ impl RoundTrip for Failure {
 
 impl Serialize for Rejected {
     ghost use Rattle.std.specs.Prelude.{[], ◌∷◌};
-    ghost use Rattle.amqp_ser.specs.Tree.{code};
-    ghost use Rattle.amqp_ser.specs.Words.{short_composite, optional_value};
+    ghost use Rattle.serde_amqp.specs.Derive.{code, short_composite, optional_value};
 
     ghost tree = { λ x. short_composite (code 0x25) (
         optional_value ⟦<Failure as Serialize>⟧.tree x.error
@@ -329,7 +324,7 @@ impl Serialize for Rejected {
 type RejectedFields = Optional<Failure, ()>;
 
 impl Record for Rejected {
-    ghost use Rattle.amqp_de.specs.Parts.{◌▸◌};
+    ghost use Rattle.serde_amqp.specs.Derive.{◌▸◌};
 
     type Values = <RejectedFields as FieldSeeds>::Values;
 
@@ -338,7 +333,7 @@ impl Record for Rejected {
 
 impl Composite for Rejected {
     ghost use Rattle.std.specs.Prelude.{codes};
-    ghost use Rattle.amqp_de.specs.Fields.{OnFields, ReadsOptional, NoMoreFields};
+    ghost use Rattle.serde_amqp.specs.Derive.{OnFields, ReadsOptional, NoMoreFields};
 
     ghost descriptor_code = { 0x25 };
 
@@ -387,8 +382,7 @@ impl Composite for Rejected {
 
 impl Deserialize for Rejected {
     ghost use Rattle.std.specs.Prelude.{codes};
-    ghost use Rattle.amqp_ser.specs.Tree.{code, described};
-    ghost use Rattle.amqp_de.specs.Composites.{OnComposite};
+    ghost use Rattle.serde_amqp.specs.Derive.{code, described, OnComposite};
 
     ghost reads = { λ t x. OnComposite 0x25 (codes "amqp:rejected:list") (λ u. ⟦<Rejected as Composite>⟧.reads u x) t };
 
@@ -427,8 +421,7 @@ impl RoundTrip for Rejected {
 
 impl Serialize for Modified {
     ghost use Rattle.std.specs.Prelude.{[], ◌∷◌};
-    ghost use Rattle.amqp_ser.specs.Tree.{code};
-    ghost use Rattle.amqp_ser.specs.Words.{short_composite, optional_value, of_bool};
+    ghost use Rattle.serde_amqp.specs.Derive.{code, short_composite, optional_value, of_bool};
 
     ghost tree = { λ x. short_composite (code 0x27) (
         optional_value of_bool x.delivery_failed
@@ -452,7 +445,7 @@ impl Serialize for Modified {
 type ModifiedFields = Optional<bool, Optional<bool, Optional<OrderedMap<Symbol, Value>, ()>>>;
 
 impl Record for Modified {
-    ghost use Rattle.amqp_de.specs.Parts.{◌▸◌};
+    ghost use Rattle.serde_amqp.specs.Derive.{◌▸◌};
 
     type Values = <ModifiedFields as FieldSeeds>::Values;
 
@@ -461,7 +454,7 @@ impl Record for Modified {
 
 impl Composite for Modified {
     ghost use Rattle.std.specs.Prelude.{codes};
-    ghost use Rattle.amqp_de.specs.Fields.{OnFields, ReadsOptional, NoMoreFields};
+    ghost use Rattle.serde_amqp.specs.Derive.{OnFields, ReadsOptional, NoMoreFields};
 
     ghost descriptor_code = { 0x27 };
 
@@ -542,8 +535,7 @@ impl Composite for Modified {
 
 impl Deserialize for Modified {
     ghost use Rattle.std.specs.Prelude.{codes};
-    ghost use Rattle.amqp_ser.specs.Tree.{code, described};
-    ghost use Rattle.amqp_de.specs.Composites.{OnComposite};
+    ghost use Rattle.serde_amqp.specs.Derive.{code, described, OnComposite};
 
     ghost reads = { λ t x. OnComposite 0x27 (codes "amqp:modified:list") (λ u. ⟦<Modified as Composite>⟧.reads u x) t };
 
@@ -581,7 +573,7 @@ impl RoundTrip for Modified {
 }
 
 impl Record for Outcome {
-    ghost use Rattle.amqp_de.specs.declared.enums.variants.Either.TheVariants.{This, Other};
+    ghost use Rattle.serde_amqp.specs.Derive.{This, Other};
     ghost use Rattle.example_derived.specs.declared.outcome.Outcome.TheVariants as variant;
 
     type Values = Either<Accepted, Either<Rejected, Either<Modified, Never>>>;
@@ -602,8 +594,7 @@ impl Serialize for Outcome {
 }
 
 impl Deserialize for Outcome {
-    ghost use Rattle.amqp_ser.specs.Tree.{code, described};
-    ghost use Rattle.amqp_de.specs.Composites.{OnAlternatives};
+    ghost use Rattle.serde_amqp.specs.Derive.{code, described, OnAlternatives};
 
     ghost reads = { λ t x. OnAlternatives ⟦<Either<Accepted, Either<Rejected, Either<Modified, Never>>> as Alternatives>⟧.reads t (⟦<Outcome as Record>⟧.parts x) };
 

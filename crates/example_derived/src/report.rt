@@ -39,7 +39,7 @@ use serde_amqp::derive::{
 
 impl Serialize for Position {
     ghost use Rattle.std.specs.Prelude.{[], ◌∷◌};
-    ghost use Rattle.amqp_ser.specs.Words.{short_list_of, required_value, optional_value, of_i32, of_u32};
+    ghost use Rattle.serde_amqp.specs.Derive.{short_list_of, required_value, optional_value, of_i32, of_u32};
 
     ghost tree = { λ x. short_list_of (
         required_value (of_i32 x.latitude)
@@ -61,7 +61,7 @@ impl Serialize for Position {
 type PositionFields = Required<i32, Required<i32, Optional<u32, ()>>>;
 
 impl Record for Position {
-    ghost use Rattle.amqp_de.specs.Parts.{◌▸◌};
+    ghost use Rattle.serde_amqp.specs.Derive.{◌▸◌};
 
     type Values = <PositionFields as FieldSeeds>::Values;
 
@@ -70,7 +70,7 @@ impl Record for Position {
 
 impl Deserialize for Position {
     ghost use Rattle.std.specs.Prelude.{codes};
-    ghost use Rattle.amqp_de.specs.Fields.{OnFields, ReadsRequired, ReadsOptional, NoMoreFields};
+    ghost use Rattle.serde_amqp.specs.Derive.{OnFields, ReadsRequired, ReadsOptional, NoMoreFields};
 
     ghost reads = { λ t x. OnFields (
         ReadsRequired (codes "latitude") ⟦<i32 as Deserialize>⟧.reads x.latitude (
@@ -143,8 +143,7 @@ impl RoundTrip for Position {
 
 impl Serialize for Report {
     ghost use Rattle.std.specs.Prelude.{[], ◌∷◌};
-    ghost use Rattle.amqp_ser.specs.Tree.{code};
-    ghost use Rattle.amqp_ser.specs.Words.{short_composite, required_value, optional_value, of_binary, of_bool, of_string, of_symbol, of_timestamp, of_u32};
+    ghost use Rattle.serde_amqp.specs.Derive.{code, short_composite, required_value, optional_value, of_binary, of_bool, of_string, of_symbol, of_timestamp, of_u32};
 
     ghost tree = { λ x. short_composite (code 0x18) (
         required_value (of_u32 x.number)
@@ -195,7 +194,7 @@ type ReportFields = Required<
 >;
 
 impl Record for Report {
-    ghost use Rattle.amqp_de.specs.Parts.{◌▸◌};
+    ghost use Rattle.serde_amqp.specs.Derive.{◌▸◌};
 
     type Values = <ReportFields as FieldSeeds>::Values;
 
@@ -204,7 +203,7 @@ impl Record for Report {
 
 impl Composite for Report {
     ghost use Rattle.std.specs.Prelude.{codes};
-    ghost use Rattle.amqp_de.specs.Fields.{OnFields, ReadsRequired, ReadsOptional, NoMoreFields};
+    ghost use Rattle.serde_amqp.specs.Derive.{OnFields, ReadsRequired, ReadsOptional, NoMoreFields};
 
     ghost descriptor_code = { 0x18 };
 
@@ -347,8 +346,7 @@ impl Composite for Report {
 
 impl Deserialize for Report {
     ghost use Rattle.std.specs.Prelude.{codes};
-    ghost use Rattle.amqp_ser.specs.Tree.{code, described};
-    ghost use Rattle.amqp_de.specs.Composites.{OnComposite};
+    ghost use Rattle.serde_amqp.specs.Derive.{code, described, OnComposite};
 
     ghost reads = { λ t x. OnComposite 0x18 (codes "weather:report:list") (λ u. ⟦<Report as Composite>⟧.reads u x) t };
 
@@ -387,7 +385,7 @@ impl RoundTrip for Report {
 
 impl Report {
     ghost use Rattle.std.specs.Prelude.{◌≡◌, false};
-    ghost use Rattle.amqp_de.specs.Defaults.{value_or};
+    ghost use Rattle.serde_amqp.specs.Derive.{value_or};
 
     /// Returns `is_checked`, or `false` if it is absent.
     pub fn is_checked_or_default(&self) -> bool

@@ -37,7 +37,7 @@ use serde_amqp::derive::{
 
 impl Serialize for Day {
     ghost use Rattle.std.specs.Prelude.{[], ◌∷◌};
-    ghost use Rattle.amqp_ser.specs.Words.{list_of, of_symbol};
+    ghost use Rattle.serde_amqp.specs.Derive.{list_of, of_symbol};
 
     ghost tree = { λ x. list_of (
         ⟦<[u32; 2] as Serialize>⟧.tree x.light
@@ -59,7 +59,7 @@ impl Serialize for Day {
 type DayFields = Required<[u32; 2], Required<Symbol, Required<BTreeMap<u32, i32>, ()>>>;
 
 impl Record for Day {
-    ghost use Rattle.amqp_de.specs.Parts.{◌▸◌};
+    ghost use Rattle.serde_amqp.specs.Derive.{◌▸◌};
 
     type Values = <DayFields as FieldSeeds>::Values;
 
@@ -68,7 +68,7 @@ impl Record for Day {
 
 impl Deserialize for Day {
     ghost use Rattle.std.specs.Prelude.{codes};
-    ghost use Rattle.amqp_de.specs.Fields.{OnFields, ReadsRequired, NoMoreFields};
+    ghost use Rattle.serde_amqp.specs.Derive.{OnFields, ReadsRequired, NoMoreFields};
 
     ghost reads = { λ t x. OnFields (
         ReadsRequired (codes "light") ⟦<[u32; 2] as Deserialize>⟧.reads x.light (
@@ -132,8 +132,7 @@ impl RoundTrip for Day {
 
 impl Serialize for Rain {
     ghost use Rattle.std.specs.Prelude.{[], ◌∷◌, codes};
-    ghost use Rattle.amqp_ser.specs.Tree.{name};
-    ghost use Rattle.amqp_ser.specs.Words.{list_composite, of_u16, of_u32};
+    ghost use Rattle.serde_amqp.specs.Derive.{name, list_composite, of_u16, of_u32};
 
     ghost tree = { λ x. list_composite (name (codes "station:rain:list")) (
         of_u32 x.amount
@@ -155,7 +154,7 @@ impl Serialize for Rain {
 type RainFields = Required<u32, Required<u16, ()>>;
 
 impl Record for Rain {
-    ghost use Rattle.amqp_de.specs.Parts.{◌▸◌};
+    ghost use Rattle.serde_amqp.specs.Derive.{◌▸◌};
 
     type Values = <RainFields as FieldSeeds>::Values;
 
@@ -164,8 +163,7 @@ impl Record for Rain {
 
 impl Deserialize for Rain {
     ghost use Rattle.std.specs.Prelude.{codes};
-    ghost use Rattle.amqp_ser.specs.Tree.{name, described};
-    ghost use Rattle.amqp_de.specs.Fields.{OnDescribed, OnFields, ReadsRequired, NoMoreFields};
+    ghost use Rattle.serde_amqp.specs.Derive.{name, described, OnDescribed, OnFields, ReadsRequired, NoMoreFields};
 
     ghost reads = { λ t x. OnDescribed (name (codes "station:rain:list")) (OnFields (
         ReadsRequired (codes "amount") ⟦<u32 as Deserialize>⟧.reads x.amount (

@@ -24,8 +24,7 @@ use serde_amqp::derive::{
 
 impl Serialize for Position {
     ghost use Rattle.std.specs.Prelude.{[], ◌∷◌};
-    ghost use Rattle.amqp_ser.specs.Carried.{optional};
-    ghost use Rattle.amqp_ser.specs.Words.{list_of, of_i32, of_u32};
+    ghost use Rattle.serde_amqp.specs.Derive.{optional, list_of, of_i32, of_u32};
 
     ghost tree = { λ x. list_of (
         of_i32 x.latitude
@@ -47,7 +46,7 @@ impl Serialize for Position {
 type PositionFields = Required<i32, Required<i32, Optional<u32, ()>>>;
 
 impl Record for Position {
-    ghost use Rattle.amqp_de.specs.Parts.{◌▸◌};
+    ghost use Rattle.serde_amqp.specs.Derive.{◌▸◌};
 
     type Values = <PositionFields as FieldSeeds>::Values;
 
@@ -56,7 +55,7 @@ impl Record for Position {
 
 impl Deserialize for Position {
     ghost use Rattle.std.specs.Prelude.{codes};
-    ghost use Rattle.amqp_de.specs.Fields.{OnFields, ReadsRequired, ReadsOptional, NoMoreFields};
+    ghost use Rattle.serde_amqp.specs.Derive.{OnFields, ReadsRequired, ReadsOptional, NoMoreFields};
 
     ghost reads = { λ t x. OnFields (
         ReadsRequired (codes "latitude") ⟦<i32 as Deserialize>⟧.reads x.latitude (

@@ -55,7 +55,7 @@ use serde_amqp::derive::{
 
 impl Serialize for Region {
     ghost use Rattle.std.specs.Prelude.{[], ◌∷◌};
-    ghost use Rattle.amqp_ser.specs.Words.{list_of, of_u32};
+    ghost use Rattle.serde_amqp.specs.Derive.{list_of, of_u32};
 
     ghost tree = { λ x. list_of (
         of_u32 x.number
@@ -75,7 +75,7 @@ impl Serialize for Region {
 type RegionFields = Required<u32, Required<Vec<Value>, ()>>;
 
 impl Record for Region {
-    ghost use Rattle.amqp_de.specs.Parts.{◌▸◌};
+    ghost use Rattle.serde_amqp.specs.Derive.{◌▸◌};
 
     type Values = <RegionFields as FieldSeeds>::Values;
 
@@ -84,7 +84,7 @@ impl Record for Region {
 
 impl Deserialize for Region {
     ghost use Rattle.std.specs.Prelude.{codes};
-    ghost use Rattle.amqp_de.specs.Fields.{OnFields, ReadsRequired, NoMoreFields};
+    ghost use Rattle.serde_amqp.specs.Derive.{OnFields, ReadsRequired, NoMoreFields};
 
     ghost reads = { λ t x. OnFields (
         ReadsRequired (codes "number") ⟦<u32 as Deserialize>⟧.reads x.number (

@@ -39,8 +39,7 @@ use serde_amqp::derive::{
 
 impl Serialize for Report {
     ghost use Rattle.std.specs.Prelude.{[], ◌∷◌};
-    ghost use Rattle.amqp_ser.specs.Tree.{code};
-    ghost use Rattle.amqp_ser.specs.Words.{short_composite, required_value, optional_value, of_binary, of_bool, of_string, of_symbol, of_timestamp, of_u32};
+    ghost use Rattle.serde_amqp.specs.Derive.{code, short_composite, required_value, optional_value, of_binary, of_bool, of_string, of_symbol, of_timestamp, of_u32};
 
     ghost tree = { λ x. short_composite (code 0x18) (
         required_value (of_u32 x.number)
@@ -91,7 +90,7 @@ type ReportFields = Required<
 >;
 
 impl Record for Report {
-    ghost use Rattle.amqp_de.specs.Parts.{◌▸◌};
+    ghost use Rattle.serde_amqp.specs.Derive.{◌▸◌};
 
     type Values = <ReportFields as FieldSeeds>::Values;
 
@@ -100,8 +99,7 @@ impl Record for Report {
 
 impl Deserialize for Report {
     ghost use Rattle.std.specs.Prelude.{codes};
-    ghost use Rattle.amqp_ser.specs.Tree.{code, described};
-    ghost use Rattle.amqp_de.specs.Fields.{OnDescribed, OnFields, ReadsRequired, ReadsOptional, NoMoreFields};
+    ghost use Rattle.serde_amqp.specs.Derive.{code, described, OnDescribed, OnFields, ReadsRequired, ReadsOptional, NoMoreFields};
 
     ghost reads = { λ t x. OnDescribed (code 0x18) (OnFields (
         ReadsRequired (codes "number") ⟦<u32 as Deserialize>⟧.reads x.number (

@@ -24,8 +24,7 @@ use serde_amqp::derive::{
 
 impl Serialize for Gust {
     ghost use Rattle.std.specs.Prelude.{[], ◌∷◌};
-    ghost use Rattle.amqp_ser.specs.Tree.{code};
-    ghost use Rattle.amqp_ser.specs.Words.{short_composite, required_value, optional_value, of_u16, of_u32};
+    ghost use Rattle.serde_amqp.specs.Derive.{code, short_composite, required_value, optional_value, of_u16, of_u32};
 
     ghost tree = { λ x. short_composite (code 0x17) (
         required_value (of_u32 x.speed)
@@ -49,7 +48,7 @@ impl Serialize for Gust {
 type GustFields = Required<u32, Optional<u16, Optional<u16, ()>>>;
 
 impl Record for Gust {
-    ghost use Rattle.amqp_de.specs.Parts.{◌▸◌};
+    ghost use Rattle.serde_amqp.specs.Derive.{◌▸◌};
 
     type Values = <GustFields as FieldSeeds>::Values;
 
@@ -58,8 +57,7 @@ impl Record for Gust {
 
 impl Deserialize for Gust {
     ghost use Rattle.std.specs.Prelude.{codes};
-    ghost use Rattle.amqp_ser.specs.Tree.{code, described};
-    ghost use Rattle.amqp_de.specs.Fields.{OnDescribed, OnFields, ReadsRequired, ReadsOptional, NoMoreFields};
+    ghost use Rattle.serde_amqp.specs.Derive.{code, described, OnDescribed, OnFields, ReadsRequired, ReadsOptional, NoMoreFields};
 
     ghost reads = { λ t x. OnDescribed (code 0x17) (OnFields (
         ReadsRequired (codes "speed") ⟦<u32 as Deserialize>⟧.reads x.speed (

@@ -4,6 +4,7 @@ pub mod CutLines
 pub mod CutRun
 pub mod Lines
 pub mod LinesRun
+pub mod Derive
 -- Definitions only in the contracts of private functions, and `texts` of Lines.
 pub mod CutSteps
 -- Definitions of the crates below in the contracts of re-exported items.

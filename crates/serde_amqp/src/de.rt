@@ -1,5 +1,6 @@
 //! Deserialization: the traits, the sources to read from, and helpers for user-defined types.
 
+pub use crate::{named, variants};
 pub use amqp_de::de::{
     Content, Deserialize, DeserializeCompounds, DeserializeError, DeserializeScalars, Deserializer,
     EnumAccess, FixedContent, GaveUp, MapAccess, Plain, SeqAccess, VariantAccess, Visit, Visitor,
@@ -12,5 +13,4 @@ pub use amqp_de::{
     read_composite_map, read_composite_type, read_composite_type_encoded, read_described,
     read_described_encoded, read_described_map, read_fields_map, read_map, read_named,
     read_named_encoded, read_named_map, read_no_fields, read_parts_encoded, values, variant,
-    variants,
 };

@@ -26,6 +26,7 @@ mod input;
 pub mod laws;
 pub mod lazy;
 mod lines;
+mod macros;
 pub mod primitives;
 pub mod read;
 pub mod ser;

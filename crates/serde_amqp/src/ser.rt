@@ -1,10 +1,11 @@
 //! Serialization: the traits, the encoding of a value, and helpers for user-defined serializers.
 
+pub use crate::fields;
 pub use amqp_data::markers;
 pub use amqp_ser::{
     Compound, CompoundKind, Field, Fields, Fixed, Keys, ListOf, MapOf, Marker, Name, OptionalField,
     Serialize, SerializeCompounds, SerializeMap, SerializeScalars, SerializeSeq, SerializeStruct,
     SerializeStructVariant, SerializeTuple, SerializeTupleStruct, SerializeTupleVariant,
-    Serializer, SymbolMapOf, VariantOf, fields, marker_named,
+    Serializer, SymbolMapOf, VariantOf, marker_named,
 };
 pub use amqp_wire::{to_lazy_value, to_vec};

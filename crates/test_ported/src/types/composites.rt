@@ -65,8 +65,7 @@ use serde_amqp::derive::{ListOf, MapOf, Serialize, SerializeCompounds, Serialize
 
 impl Serialize for Door {
     ghost use Rattle.std.specs.Prelude.{[], ◌∷◌};
-    ghost use Rattle.amqp_ser.specs.Tree.{code};
-    ghost use Rattle.amqp_ser.specs.Words.{short_composite, required_value, of_bool, of_i32};
+    ghost use Rattle.serde_amqp.specs.Derive.{code, short_composite, required_value, of_bool, of_i32};
 
     ghost tree = { λ x. short_composite (code 0x13) (
         required_value (of_bool x.is_shut)
@@ -86,9 +85,7 @@ impl Serialize for Door {
 
 impl Serialize for DoorMap {
     ghost use Rattle.std.specs.Prelude.{Some, [], ◌∷◌, codes};
-    ghost use Rattle.amqp_ser.specs.Composites.{as_described};
-    ghost use Rattle.amqp_ser.specs.Tree.{code};
-    ghost use Rattle.amqp_ser.specs.Words.{short_map_of, required_value, of_bool, of_i32};
+    ghost use Rattle.serde_amqp.specs.Derive.{as_described, code, short_map_of, required_value, of_bool, of_i32};
 
     ghost tree = { λ x. as_described (Some (code 0x13)) (short_map_of (
         (codes "is_shut", required_value (of_bool x.is_shut))
@@ -108,8 +105,7 @@ impl Serialize for DoorMap {
 
 impl Serialize for DoorTuple {
     ghost use Rattle.std.specs.Prelude.{[], ◌∷◌};
-    ghost use Rattle.amqp_ser.specs.Tree.{code};
-    ghost use Rattle.amqp_ser.specs.Words.{short_composite, required_value, of_bool, of_i32};
+    ghost use Rattle.serde_amqp.specs.Derive.{code, short_composite, required_value, of_bool, of_i32};
 
     ghost tree = { λ x. short_composite (code 0x13) (
         required_value (of_bool x.0)
@@ -129,8 +125,7 @@ impl Serialize for DoorTuple {
 
 impl Serialize for Inner {
     ghost use Rattle.std.specs.Prelude.{[], ◌∷◌};
-    ghost use Rattle.amqp_ser.specs.Tree.{code};
-    ghost use Rattle.amqp_ser.specs.Words.{short_composite, optional_value, of_bool, of_i32};
+    ghost use Rattle.serde_amqp.specs.Derive.{code, short_composite, optional_value, of_bool, of_i32};
 
     ghost tree = { λ x. short_composite (code 0x13) (
         optional_value of_bool x.0
@@ -150,8 +145,7 @@ impl Serialize for Inner {
 
 impl Serialize for Outer {
     ghost use Rattle.std.specs.Prelude.{[], ◌∷◌};
-    ghost use Rattle.amqp_ser.specs.Tree.{code};
-    ghost use Rattle.amqp_ser.specs.Words.{short_composite, required_value, of_i32};
+    ghost use Rattle.serde_amqp.specs.Derive.{code, short_composite, required_value, of_i32};
 
     ghost tree = { λ x. short_composite (code 0x31) (
         required_value (of_i32 x.0)
@@ -170,8 +164,7 @@ impl Serialize for Outer {
 }
 
 impl Serialize for Annotations {
-    ghost use Rattle.amqp_ser.specs.Tree.{code};
-    ghost use Rattle.amqp_ser.specs.Words.{basic_composite};
+    ghost use Rattle.serde_amqp.specs.Derive.{code, basic_composite};
 
     ghost tree = { λ x. basic_composite (code 0x01) (⟦<BTreeMap<Symbol, i32> as Serialize>⟧.tree x.0) };
 
@@ -182,8 +175,7 @@ impl Serialize for Annotations {
 
 impl Serialize for Tail {
     ghost use Rattle.std.specs.Prelude.{[], ◌∷◌};
-    ghost use Rattle.amqp_ser.specs.Tree.{code};
-    ghost use Rattle.amqp_ser.specs.Words.{short_composite, required_value, optional_value, of_i32};
+    ghost use Rattle.serde_amqp.specs.Derive.{code, short_composite, required_value, optional_value, of_i32};
 
     ghost tree = { λ x. short_composite (code 0x01) (
         required_value (of_i32 x.first)
@@ -203,8 +195,7 @@ impl Serialize for Tail {
 
 impl Serialize for Empty {
     ghost use Rattle.std.specs.Prelude.{[]};
-    ghost use Rattle.amqp_ser.specs.Tree.{code};
-    ghost use Rattle.amqp_ser.specs.Words.{short_composite};
+    ghost use Rattle.serde_amqp.specs.Derive.{code, short_composite};
 
     ghost tree = { λ _. short_composite (code 0x01) [] };
 
@@ -215,8 +206,7 @@ impl Serialize for Empty {
 
 impl Serialize for Label {
     ghost use Rattle.std.specs.Prelude.{[], ◌∷◌};
-    ghost use Rattle.amqp_ser.specs.Tree.{code};
-    ghost use Rattle.amqp_ser.specs.Words.{short_composite, required_value, of_i32, of_string};
+    ghost use Rattle.serde_amqp.specs.Derive.{code, short_composite, required_value, of_i32, of_string};
 
     ghost tree = { λ x. short_composite (code 0x01) (
         required_value (of_i32 x.number)

@@ -29,8 +29,7 @@ use serde_amqp::derive::{
 
 impl Serialize for Gauge {
     ghost use Rattle.std.specs.Prelude.{[], ◌∷◌};
-    ghost use Rattle.amqp_ser.specs.Tree.{code};
-    ghost use Rattle.amqp_ser.specs.Words.{short_composite, required_value, of_bool, of_u32};
+    ghost use Rattle.serde_amqp.specs.Derive.{code, short_composite, required_value, of_bool, of_u32};
 
     ghost tree = { λ x. short_composite (code 0x13) (
         required_value (of_u32 x.gauge_number)
@@ -52,7 +51,7 @@ impl Serialize for Gauge {
 type GaugeFields = Required<u32, Required<bool, ()>>;
 
 impl Record for Gauge {
-    ghost use Rattle.amqp_de.specs.Parts.{◌▸◌};
+    ghost use Rattle.serde_amqp.specs.Derive.{◌▸◌};
 
     type Values = <GaugeFields as FieldSeeds>::Values;
 
@@ -61,7 +60,7 @@ impl Record for Gauge {
 
 impl Composite for Gauge {
     ghost use Rattle.std.specs.Prelude.{codes};
-    ghost use Rattle.amqp_de.specs.Fields.{OnFields, ReadsRequired, NoMoreFields};
+    ghost use Rattle.serde_amqp.specs.Derive.{OnFields, ReadsRequired, NoMoreFields};
 
     ghost descriptor_code = { 0x13 };
 
@@ -129,8 +128,7 @@ impl Composite for Gauge {
 
 impl Deserialize for Gauge {
     ghost use Rattle.std.specs.Prelude.{codes};
-    ghost use Rattle.amqp_ser.specs.Tree.{code, described};
-    ghost use Rattle.amqp_de.specs.Composites.{OnComposite};
+    ghost use Rattle.serde_amqp.specs.Derive.{code, described, OnComposite};
 
     ghost reads = { λ t x. OnComposite 0x13 (codes "test:gauge") (λ u. ⟦<Gauge as Composite>⟧.reads u x) t };
 
@@ -155,7 +153,7 @@ impl Deserialize for Gauge {
 }
 
 impl Serialize for Count {
-    ghost use Rattle.amqp_ser.specs.Words.{of_i32};
+    ghost use Rattle.serde_amqp.specs.Derive.{of_i32};
 
     ghost tree = { λ x. of_i32 x.0 };
 
@@ -195,7 +193,7 @@ impl Deserialize for Count {
 
 impl Serialize for Counter {
     ghost use Rattle.std.specs.Prelude.{[], ◌∷◌};
-    ghost use Rattle.amqp_ser.specs.Words.{short_list_of, required_value};
+    ghost use Rattle.serde_amqp.specs.Derive.{short_list_of, required_value};
 
     ghost tree = { λ x. short_list_of (
         required_value (⟦<Count as Serialize>⟧.tree x.count)
@@ -213,7 +211,7 @@ impl Serialize for Counter {
 type CounterFields = Required<Count, ()>;
 
 impl Record for Counter {
-    ghost use Rattle.amqp_de.specs.Parts.{◌▸◌};
+    ghost use Rattle.serde_amqp.specs.Derive.{◌▸◌};
 
     type Values = <CounterFields as FieldSeeds>::Values;
 
@@ -222,7 +220,7 @@ impl Record for Counter {
 
 impl Deserialize for Counter {
     ghost use Rattle.std.specs.Prelude.{codes};
-    ghost use Rattle.amqp_de.specs.Fields.{OnFields, ReadsRequired, NoMoreFields};
+    ghost use Rattle.serde_amqp.specs.Derive.{OnFields, ReadsRequired, NoMoreFields};
 
     ghost reads = { λ t x. OnFields (
         ReadsRequired (codes "count") ⟦<Count as Deserialize>⟧.reads x.count

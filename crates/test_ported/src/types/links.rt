@@ -32,8 +32,7 @@ use serde_amqp::derive::{ListOf, Serialize, SerializeCompounds, Serializer, fiel
 
 impl Serialize for Source {
     ghost use Rattle.std.specs.Prelude.{[], ◌∷◌};
-    ghost use Rattle.amqp_ser.specs.Tree.{code};
-    ghost use Rattle.amqp_ser.specs.Words.{short_composite, optional_value, of_string};
+    ghost use Rattle.serde_amqp.specs.Derive.{code, short_composite, optional_value, of_string};
 
     ghost tree = { λ x. short_composite (code 0x28) (
         optional_value of_string x.address
@@ -53,8 +52,7 @@ impl Serialize for Source {
 
 impl Serialize for Target {
     ghost use Rattle.std.specs.Prelude.{[], ◌∷◌};
-    ghost use Rattle.amqp_ser.specs.Tree.{code};
-    ghost use Rattle.amqp_ser.specs.Words.{short_composite, optional_value, of_string};
+    ghost use Rattle.serde_amqp.specs.Derive.{code, short_composite, optional_value, of_string};
 
     ghost tree = { λ x. short_composite (code 0x29) (
         optional_value of_string x.address
@@ -74,8 +72,7 @@ impl Serialize for Target {
 
 impl Serialize for Attach {
     ghost use Rattle.std.specs.Prelude.{[], ◌∷◌};
-    ghost use Rattle.amqp_ser.specs.Tree.{code};
-    ghost use Rattle.amqp_ser.specs.Words.{short_composite, optional_value};
+    ghost use Rattle.serde_amqp.specs.Derive.{code, short_composite, optional_value};
 
     ghost tree = { λ x. short_composite (code 0x12) (
         optional_value ⟦<Source as Serialize>⟧.tree x.source

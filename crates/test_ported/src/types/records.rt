@@ -25,8 +25,7 @@ use serde_amqp::derive::{
 
 impl Serialize for Entry {
     ghost use Rattle.std.specs.Prelude.{[], ◌∷◌, Option};
-    ghost use Rattle.amqp_ser.specs.Tree.{Tree};
-    ghost use Rattle.amqp_ser.specs.Words.{variant_of, of_bool, of_i32, of_string, of_u32};
+    ghost use Rattle.serde_amqp.specs.Derive.{Tree, variant_of, of_bool, of_i32, of_string, of_u32};
     ghost use Rattle.test_ported.specs.declared.types.records.Entry.TheVariants as variant;
 
     ghost tree = { λ x. elim x as (λ _. Option Tree) [
@@ -67,8 +66,7 @@ type EntryVariants = DataVariant<
 >;
 
 impl Record for Entry {
-    ghost use Rattle.amqp_de.specs.Parts.{◌▸◌};
-    ghost use Rattle.amqp_de.specs.declared.enums.variants.Either.TheVariants.{This, Other};
+    ghost use Rattle.serde_amqp.specs.Derive.{◌▸◌, This, Other};
     ghost use Rattle.test_ported.specs.declared.types.records.Entry.TheVariants as variant;
 
     type Values = Either<
@@ -81,8 +79,7 @@ impl Record for Entry {
 
 impl Deserialize for Entry {
     ghost use Rattle.std.specs.Prelude.{codes};
-    ghost use Rattle.amqp_de.specs.Fields.{OnFields, ReadsRequired, NoMoreFields};
-    ghost use Rattle.amqp_de.specs.Enums.{OnEnum, IsDataVariant, IsNoVariant};
+    ghost use Rattle.serde_amqp.specs.Derive.{OnFields, ReadsRequired, NoMoreFields, OnEnum, IsDataVariant, IsNoVariant};
 
     ghost reads = { λ t x. OnEnum (
         IsDataVariant (λ u y. OnFields (
@@ -130,8 +127,7 @@ impl Deserialize for Entry {
 
 impl Serialize for Event {
     ghost use Rattle.std.specs.Prelude.{[], ◌∷◌, Option};
-    ghost use Rattle.amqp_ser.specs.Tree.{Tree};
-    ghost use Rattle.amqp_ser.specs.Words.{variant_of, of_bool, of_i32, of_string, of_u32};
+    ghost use Rattle.serde_amqp.specs.Derive.{Tree, variant_of, of_bool, of_i32, of_string, of_u32};
     ghost use Rattle.test_ported.specs.declared.types.records.Event.TheVariants as variant;
 
     ghost tree = { λ x. elim x as (λ _. Option Tree) [
@@ -172,8 +168,7 @@ type EventVariants = DataVariant<
 >;
 
 impl Record for Event {
-    ghost use Rattle.amqp_de.specs.Parts.{◌▸◌};
-    ghost use Rattle.amqp_de.specs.declared.enums.variants.Either.TheVariants.{This, Other};
+    ghost use Rattle.serde_amqp.specs.Derive.{◌▸◌, This, Other};
     ghost use Rattle.test_ported.specs.declared.types.records.Event.TheVariants as variant;
 
     type Values = Either<
@@ -186,8 +181,7 @@ impl Record for Event {
 
 impl Deserialize for Event {
     ghost use Rattle.std.specs.Prelude.{codes};
-    ghost use Rattle.amqp_de.specs.Fields.{OnFields, ReadsRequired, NoMoreFields};
-    ghost use Rattle.amqp_de.specs.Enums.{OnEnum, IsDataVariant, IsNoVariant};
+    ghost use Rattle.serde_amqp.specs.Derive.{OnFields, ReadsRequired, NoMoreFields, OnEnum, IsDataVariant, IsNoVariant};
 
     ghost reads = { λ t x. OnEnum (
         IsDataVariant (λ u y. OnFields (

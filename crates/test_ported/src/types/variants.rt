@@ -26,8 +26,7 @@ use serde_amqp::derive::{
 
 impl Serialize for Light {
     ghost use Rattle.std.specs.Prelude.{Option};
-    ghost use Rattle.amqp_ser.specs.Tree.{Tree};
-    ghost use Rattle.amqp_ser.specs.Words.{of_u32};
+    ghost use Rattle.serde_amqp.specs.Derive.{Tree, of_u32};
     ghost use Rattle.test_ported.specs.declared.types.variants.Light.TheVariants as variant;
 
     ghost tree = { λ x. elim x as (λ _. Option Tree) [ variant.Red ↦ of_u32 0 | variant.Amber ↦ of_u32 1 | variant.Green ↦ of_u32 2 ] };
@@ -45,7 +44,7 @@ impl Serialize for Light {
 type LightVariants = UnitVariant<UnitVariant<UnitVariant<()>>>;
 
 impl Record for Light {
-    ghost use Rattle.amqp_de.specs.declared.enums.variants.Either.TheVariants.{This, Other};
+    ghost use Rattle.serde_amqp.specs.Derive.{This, Other};
     ghost use Rattle.test_ported.specs.declared.types.variants.Light.TheVariants as variant;
 
     type Values = Either<(), Either<(), Either<(), Never>>>;
@@ -54,7 +53,7 @@ impl Record for Light {
 }
 
 impl Deserialize for Light {
-    ghost use Rattle.amqp_de.specs.Enums.{OnEnum, IsUnitVariant, IsNoVariant};
+    ghost use Rattle.serde_amqp.specs.Derive.{OnEnum, IsUnitVariant, IsNoVariant};
 
     ghost reads = { λ t x. OnEnum (
         IsUnitVariant (
@@ -84,13 +83,10 @@ impl Deserialize for Light {
 
 impl Serialize for Key {
     ghost use Rattle.std.specs.Prelude.{[], ◌∷◌, Option};
-    ghost use Rattle.amqp_ser.specs.Compounds.{tree_of_parts};
-    ghost use Rattle.amqp_ser.specs.Tree.{Tree};
-    ghost use Rattle.amqp_ser.specs.Words.{of_string, of_u64};
-    ghost use Rattle.amqp_ser.specs.declared.kind.CompoundKind.TheVariants as kind;
+    ghost use Rattle.serde_amqp.specs.Derive.{tree_of_parts, Tree, of_string, of_u64, NewtypeVariant};
     ghost use Rattle.test_ported.specs.declared.types.variants.Key.TheVariants as variant;
 
-    ghost tree = { λ x. elim x as (λ _. Option Tree) [ variant.Text v0 ↦ tree_of_parts (kind.NewtypeVariant 0) (of_string v0 ∷ []) | variant.Number v0 ↦ tree_of_parts (kind.NewtypeVariant 1) (of_u64 v0 ∷ []) ] };
+    ghost tree = { λ x. elim x as (λ _. Option Tree) [ variant.Text v0 ↦ tree_of_parts (NewtypeVariant 0) (of_string v0 ∷ []) | variant.Number v0 ↦ tree_of_parts (NewtypeVariant 1) (of_u64 v0 ∷ []) ] };
 
     fn serialize<S: Serializer>(&self, serializer: &mut S) -> Result<S::Ok, S::Error> {
         match self {
@@ -104,7 +100,7 @@ impl Serialize for Key {
 type KeyVariants = DataVariant<TypeSeed<String>, DataVariant<TypeSeed<u64>, ()>>;
 
 impl Record for Key {
-    ghost use Rattle.amqp_de.specs.declared.enums.variants.Either.TheVariants.{This, Other};
+    ghost use Rattle.serde_amqp.specs.Derive.{This, Other};
     ghost use Rattle.test_ported.specs.declared.types.variants.Key.TheVariants as variant;
 
     type Values = Either<String, Either<u64, Never>>;
@@ -113,7 +109,7 @@ impl Record for Key {
 }
 
 impl Deserialize for Key {
-    ghost use Rattle.amqp_de.specs.Enums.{OnEnum, IsDataVariant, IsNoVariant};
+    ghost use Rattle.serde_amqp.specs.Derive.{OnEnum, IsDataVariant, IsNoVariant};
 
     ghost reads = { λ t x. OnEnum (
         IsDataVariant ⟦<String as Deserialize>⟧.reads (
