@@ -4,8 +4,10 @@
 //! finds errors: for a value that cannot be written, a length is `usize::MAX` and an append returns
 //! `false`. A serializer then finds the error.
 
-ghost use Rattle.std.specs.Prelude.{◌≡◌, ◌≤◌, ◌++◌, length, take, drop, reverse};
+ghost use Rattle.std.specs.Prelude.{◌≡◌, ◌≤◌, ◌+◌, ◌++◌, true, length, take, drop, reverse};
+ghost use Rattle.amqp_ser.specs.Headers.{headers_of};
 ghost use Rattle.amqp_value.specs.TreeOf.{tree_of};
+ghost use Rattle.amqp_value.specs.Wrote.{Grows, Wrote};
 
 mod append;
 mod bodies;
@@ -62,8 +64,19 @@ impl Whole for Value {
     }
 
     fn whole_write(&self, headers: &[Header], taken: &mut usize, out: &mut Vec<u8>) -> bool {
-        write(self, headers, taken, out)
+        write_apart(self, headers, taken, out)
     }
+}
+
+/// Appends the encoding of a value in a function of its own, so that the serializer that asks for it
+/// saves no registers for the recursion.
+#[inline(never)]
+fn write_apart(value: &Value, headers: &[Header], taken: &mut usize, out: &mut Vec<u8>) -> bool
+    ensures wrote { result ≡ true → Wrote (tree_of value.now) out.old.items out.new.items }
+    ensures kept { Grows out.old out.new }
+    ensures taken { result ≡ true → taken.new ≡ taken.old + length (headers_of (tree_of value.now)) }
+{
+    write(value, headers, taken, out)
 }
 
 /// Reverses the headers from index `start` on.
