@@ -1,9 +1,8 @@
-//! Values written in place: the macros `list!` and `map!` and what they call.
+//! Builders of values: a list item by item, a map entry by entry.
 //!
-//! `list![in alloc; 1u32, "a", null]?` is a list of a uint, a string and null.
-//! `map!{in alloc; "k" => 1u8, sym "s" => list![in alloc; true]?}?` is a map with a string and a
-//! symbol as keys. A repeated key keeps its position and gets the new value. The one error is
-//! `Error::OutOfMemory`.
+//! `BuildList::new(alloc).item(1u32).item("a").finish()?` is a list of a uint and a string, and
+//! `BuildMap::new(alloc).entry("k", 1u8).finish()?` a map. A repeated key keeps its position and
+//! gets the new value. The one error is `Error::OutOfMemory`.
 
 mod into_value;
 mod list;

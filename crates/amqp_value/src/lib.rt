@@ -22,7 +22,6 @@ mod value;
 mod whole;
 
 pub use accessors::ValueKind;
-pub use amqp_data::SymbolRef;
 pub use build::{BuildList, BuildMap, IntoValue};
 pub use map_builder::MapBuilder;
 pub use short_keys::is_short_key;

@@ -1,6 +1,6 @@
 //! Deserialization: the traits, the sources to read from, and helpers for user-defined types.
 
-pub use crate::{named, variants};
+pub use crate::{named, values, variant, variants};
 pub use amqp_de::de::{
     Content, Deserialize, DeserializeCompounds, DeserializeError, DeserializeScalars, Deserializer,
     EnumAccess, FixedContent, GaveUp, MapAccess, Plain, SeqAccess, VariantAccess, Visit, Visitor,
@@ -8,9 +8,9 @@ pub use amqp_de::de::{
 pub use amqp_de::{
     Alternatives, Composite, ContentOf, DataVariant, Defaulted, Describes, DeserializeSeed, Either,
     ElementsOf, EntriesOf, EnumAccessOf, EnumSeed, FieldSeeds, FieldValues, ListSeed, NamedRecord,
-    NamedSeed, Never, Optional, Record, Required, TypeSeed, UnitVariant, Variants, laws, named,
-    read, read_alternatives, read_alternatives_encoded, read_composite, read_composite_encoded,
+    NamedSeed, Never, Optional, Record, Required, TypeSeed, UnitVariant, Variants, laws, read,
+    read_alternatives, read_alternatives_encoded, read_composite, read_composite_encoded,
     read_composite_map, read_composite_type, read_composite_type_encoded, read_described,
     read_described_encoded, read_described_map, read_fields_map, read_map, read_named,
-    read_named_encoded, read_named_map, read_no_fields, read_parts_encoded, values, variant,
+    read_named_encoded, read_named_map, read_no_fields, read_parts_encoded,
 };

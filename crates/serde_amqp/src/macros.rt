@@ -1,5 +1,6 @@
-//! The macros of user-defined types. `amqp_ser` and `amqp_de` define them for the crates below this
-//! one: a crate that calls a macro depends on the crate that defines it.
+//! The macros of user-defined types, and of values written in place. `amqp_ser` and `amqp_de` have
+//! those of types too, for crates that do not depend on this one: a crate that calls a macro depends
+//! on the crate that defines it.
 
 /// Builds the fields of a struct, in order: `fields! { "name": value, "other"?: option, .. }`.
 ///
@@ -58,6 +59,15 @@ macro_rules! named {
     };
 }
 
+/// The pattern of the values of fields, in order: `let values! { name, other } = read(..)?;`.
+#[macro_export]
+macro_rules! values {
+    () => { () };
+    ($value:ident $(, $($rest:tt)*)?) => {
+        $crate::de::FieldValues { value: $value, rest: $crate::values!($($($rest)*)?) }
+    };
+}
+
 /// The variants of an enum, in order:
 /// `variants! { unit, newtype, named! { "side", "note"? }, .. }`.
 ///
@@ -83,5 +93,100 @@ macro_rules! variants {
             missing: "Expecting Value::List",
             rest: $crate::variants!($($($rest)*)?),
         }
+    };
+}
+
+/// The pattern of the variant at a position: `variant!(1, value)`.
+///
+/// `variant!(none 4, never)` completes a `match` over four variants. It binds `never` to a value of
+/// the empty type [`Never`](crate::de::Never).
+#[macro_export]
+macro_rules! variant {
+    (0, $value:pat) => { $crate::de::Either::This($value) };
+    (1, $value:pat) => { $crate::de::Either::Other($crate::variant!(0, $value)) };
+    (2, $value:pat) => { $crate::de::Either::Other($crate::variant!(1, $value)) };
+    (3, $value:pat) => { $crate::de::Either::Other($crate::variant!(2, $value)) };
+    (4, $value:pat) => { $crate::de::Either::Other($crate::variant!(3, $value)) };
+    (5, $value:pat) => { $crate::de::Either::Other($crate::variant!(4, $value)) };
+    (none 0, $value:pat) => { $value };
+    (none 1, $value:pat) => { $crate::de::Either::Other($crate::variant!(none 0, $value)) };
+    (none 2, $value:pat) => { $crate::de::Either::Other($crate::variant!(none 1, $value)) };
+    (none 3, $value:pat) => { $crate::de::Either::Other($crate::variant!(none 2, $value)) };
+    (none 4, $value:pat) => { $crate::de::Either::Other($crate::variant!(none 3, $value)) };
+    (none 5, $value:pat) => { $crate::de::Either::Other($crate::variant!(none 4, $value)) };
+    (none 6, $value:pat) => { $crate::de::Either::Other($crate::variant!(none 5, $value)) };
+}
+
+/// Builds a list: `list![in alloc; item, ..]`, of type `Result<Value, Error>`.
+///
+/// An item is `null`, `sym` and a text for a symbol, or an expression of a type that is
+/// [`IntoValue`](crate::value::IntoValue), such as a number, a text or a `Value`. Nested lists and maps are
+/// written with `?`.
+///
+/// # Example
+/// `list![in alloc; 1u32, "a", null]?` is encoded as `c007035201a1016140`.
+#[macro_export]
+macro_rules! list {
+    (in $alloc:expr; $($items:tt)*) => {
+        $crate::list_items!($crate::value::BuildList::new($alloc); $($items)*)
+    };
+}
+
+/// Appends the items of `list!`. It is exported because `list!` expands to it.
+#[macro_export]
+macro_rules! list_items {
+    ($built:expr;) => { $built.finish() };
+    ($built:expr; null $(, $($rest:tt)*)?) => {
+        $crate::list_items!($built.item(()); $($($rest)*)?)
+    };
+    ($built:expr; sym $text:literal $(, $($rest:tt)*)?) => {
+        $crate::list_items!($built.item($crate::primitives::SymbolRef::from($text)); $($($rest)*)?)
+    };
+    ($built:expr; $item:expr $(, $($rest:tt)*)?) => {
+        $crate::list_items!($built.item($item); $($($rest)*)?)
+    };
+}
+
+/// Builds a map: `map!{in alloc; key => value, ..}`, of type `Result<Value, Error>`.
+///
+/// A key or a value is as an item of [`list!`](crate::list): `null`, `sym` and a text for a symbol,
+/// or an expression of a type that is [`IntoValue`](crate::value::IntoValue). A value after `sym` or `null`
+/// as a key is written the same way.
+///
+/// # Example
+/// `map!{in alloc; "k" => 1u8, sym "s" => null}?` is encoded as `c10a04a1016b5001a3017340`.
+#[macro_export]
+macro_rules! map {
+    (in $alloc:expr; $($entries:tt)*) => {
+        $crate::map_entries!($crate::value::BuildMap::new($alloc); $($entries)*)
+    };
+}
+
+/// Inserts the entries of `map!`. It is exported because `map!` expands to it.
+#[macro_export]
+macro_rules! map_entries {
+    ($built:expr;) => { $built.finish() };
+    ($built:expr; sym $key:literal => $($rest:tt)*) => {
+        $crate::map_value!($built; $crate::primitives::SymbolRef::from($key); $($rest)*)
+    };
+    ($built:expr; null => $($rest:tt)*) => {
+        $crate::map_value!($built; (); $($rest)*)
+    };
+    ($built:expr; $key:expr => $($rest:tt)*) => {
+        $crate::map_value!($built; $key; $($rest)*)
+    };
+}
+
+/// Inserts an entry of `map!` whose key is known. It is exported because `map!` expands to it.
+#[macro_export]
+macro_rules! map_value {
+    ($built:expr; $key:expr; null $(, $($rest:tt)*)?) => {
+        $crate::map_entries!($built.entry($key, ()); $($($rest)*)?)
+    };
+    ($built:expr; $key:expr; sym $text:literal $(, $($rest:tt)*)?) => {
+        $crate::map_entries!($built.entry($key, $crate::primitives::SymbolRef::from($text)); $($($rest)*)?)
+    };
+    ($built:expr; $key:expr; $value:expr $(, $($rest:tt)*)?) => {
+        $crate::map_entries!($built.entry($key, $value); $($($rest)*)?)
     };
 }

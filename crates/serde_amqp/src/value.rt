@@ -3,8 +3,9 @@
 pub mod de;
 pub mod ser;
 
+pub use crate::{list, map};
 pub use amqp_round_trip::{
     MapKey, RoundTrip, RoundTripAlternatives, RoundTripComposite, RoundTripFields, laws, round_trip,
 };
 pub use amqp_to_value::{TryFromSerializable, to_value};
-pub use amqp_value::{BuildList, BuildMap, ConvertFault, IntoValue, Value, ValueKind, list, map};
+pub use amqp_value::{BuildList, BuildMap, ConvertFault, IntoValue, Value, ValueKind};

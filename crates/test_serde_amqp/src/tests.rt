@@ -1,6 +1,7 @@
 //! Tests of the public calls, and of the program's two runs over readers and writers in memory,
 //! some of which fail. Rows of sizes, bytes and images are data of the program `test_rows`.
 
+mod building;
 mod conversions;
 mod cut_rows;
 mod errors;

@@ -1,7 +1,7 @@
 //! Values written in place, compared with expected results.
 
 use amqp_data::Error;
-use amqp_value::{IntoValue, list, map};
+use serde_amqp::value::{IntoValue, list, map};
 use std::alloc::Global;
 
 /// Makes each call once.

@@ -1,4 +1,4 @@
-//! The builder behind `list!`.
+//! The builder of a list, item by item.
 
 ghost use Rattle.std.specs.Prelude.{◌≡◌, [], IfSome, MatchResult, Some};
 ghost use Rattle.amqp_value.specs.Builds.{AddsItem, IsListOf, items_built, items_of};
@@ -80,34 +80,4 @@ fn push<T: IntoValue>(alloc: Global, items: Option<Vec<Value>>, item: T) -> Opti
     let value = item.into_value(alloc).ok()?;
     items.push(value).ok()?;
     Some(items)
-}
-
-/// Builds a list: `list![in alloc; item, ..]`, of type `Result<Value, Error>`.
-///
-/// An item is `null`, `sym` and a text for a symbol, or an expression of a type that is
-/// [`IntoValue`](crate::IntoValue), such as a number, a text or a `Value`. Nested lists and maps are
-/// written with `?`.
-///
-/// # Example
-/// `list![in alloc; 1u32, "a", null]?` is encoded as `c007035201a1016140`.
-#[macro_export]
-macro_rules! list {
-    (in $alloc:expr; $($items:tt)*) => {
-        $crate::list_items!($crate::BuildList::new($alloc); $($items)*)
-    };
-}
-
-/// Appends the items of `list!`. It is exported because `list!` expands to it.
-#[macro_export]
-macro_rules! list_items {
-    ($built:expr;) => { $built.finish() };
-    ($built:expr; null $(, $($rest:tt)*)?) => {
-        $crate::list_items!($built.item(()); $($($rest)*)?)
-    };
-    ($built:expr; sym $text:literal $(, $($rest:tt)*)?) => {
-        $crate::list_items!($built.item($crate::SymbolRef::from($text)); $($($rest)*)?)
-    };
-    ($built:expr; $item:expr $(, $($rest:tt)*)?) => {
-        $crate::list_items!($built.item($item); $($($rest)*)?)
-    };
 }

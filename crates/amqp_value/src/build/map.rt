@@ -1,4 +1,4 @@
-//! The builder behind `map!`.
+//! The builder of a map, entry by entry.
 
 ghost use Rattle.std.specs.Prelude.{◌≡◌, IfSome, MatchResult, Some};
 ghost use Rattle.amqp_ser.specs.Tree.{no_pairs};
@@ -91,48 +91,4 @@ fn insert<K: IntoValue, V: IntoValue>(
     let value = value.into_value(alloc).ok()?;
     entries.insert(key, value).ok()?;
     Some(entries)
-}
-
-/// Builds a map: `map!{in alloc; key => value, ..}`, of type `Result<Value, Error>`.
-///
-/// A key or a value is as an item of [`list!`](crate::list): `null`, `sym` and a text for a symbol,
-/// or an expression of a type that is [`IntoValue`](crate::IntoValue). A value after `sym` or `null`
-/// as a key is written the same way.
-///
-/// # Example
-/// `map!{in alloc; "k" => 1u8, sym "s" => null}?` is encoded as `c10a04a1016b5001a3017340`.
-#[macro_export]
-macro_rules! map {
-    (in $alloc:expr; $($entries:tt)*) => {
-        $crate::map_entries!($crate::BuildMap::new($alloc); $($entries)*)
-    };
-}
-
-/// Inserts the entries of `map!`. It is exported because `map!` expands to it.
-#[macro_export]
-macro_rules! map_entries {
-    ($built:expr;) => { $built.finish() };
-    ($built:expr; sym $key:literal => $($rest:tt)*) => {
-        $crate::map_value!($built; $crate::SymbolRef::from($key); $($rest)*)
-    };
-    ($built:expr; null => $($rest:tt)*) => {
-        $crate::map_value!($built; (); $($rest)*)
-    };
-    ($built:expr; $key:expr => $($rest:tt)*) => {
-        $crate::map_value!($built; $key; $($rest)*)
-    };
-}
-
-/// Inserts an entry of `map!` whose key is known. It is exported because `map!` expands to it.
-#[macro_export]
-macro_rules! map_value {
-    ($built:expr; $key:expr; null $(, $($rest:tt)*)?) => {
-        $crate::map_entries!($built.entry($key, ()); $($($rest)*)?)
-    };
-    ($built:expr; $key:expr; sym $text:literal $(, $($rest:tt)*)?) => {
-        $crate::map_entries!($built.entry($key, $crate::SymbolRef::from($text)); $($($rest)*)?)
-    };
-    ($built:expr; $key:expr; $value:expr $(, $($rest:tt)*)?) => {
-        $crate::map_entries!($built.entry($key, $value); $($($rest)*)?)
-    };
 }

@@ -2,7 +2,6 @@
 //! order are data of the program `test_rows`.
 
 mod accessors;
-mod building;
 mod conversions;
 mod distinct_keys;
 mod map_calls;
