@@ -5,9 +5,10 @@ ghost use Rattle.amqp_ser.specs.Encoding.{constructor};
 ghost use Rattle.amqp_ser.specs.Headers.{first_constructor};
 ghost use Rattle.amqp_ser.specs.Writable.{each_constructor, one_constructor};
 ghost use Rattle.amqp_value.specs.TreeOf.{tree_of, all_of};
-ghost use Rattle.amqp_value.specs.Measured.{width_for};
+ghost use Rattle.amqp_value.specs.Measured.{HaveRanges, width_for};
 
 use crate::Value;
+use crate::whole::ranges::read_scalar;
 
 /// Returns the constructor of a value in an array, or 0 for a described value, which has none.
 #[inline(always)]
@@ -30,11 +31,12 @@ pub(crate) fn constructor_of_each(items: &[Value]) -> Option<u8>
     }
 }
 
-/// Returns whether each element has this constructor. The common numbers have loops of their own,
+/// Returns whether each element has this constructor, in which case its scalars are in range. The common numbers have loops of their own,
 /// in which one comparison of the variant is left.
 #[inline(always)]
 pub(crate) fn all_have(items: &[Value], code: u8) -> bool
-    ensures { result ≡ true → 0 < code → each_constructor (Some code) (all_of items.now) ≡ true }
+    ensures each { result ≡ true → 0 < code → each_constructor (Some code) (all_of items.now) ≡ true }
+    ensures ranged { result ≡ true → HaveRanges (all_of items.now) }
 {
     match code {
         0x70 => each_has(items, 0x70),
@@ -49,12 +51,14 @@ pub(crate) fn all_have(items: &[Value], code: u8) -> bool
 /// Returns whether each element has this constructor.
 #[inline(always)]
 fn each_has(items: &[Value], code: u8) -> bool
-    ensures { result ≡ true → 0 < code → each_constructor (Some code) (all_of items.now) ≡ true }
+    ensures each { result ≡ true → 0 < code → each_constructor (Some code) (all_of items.now) ≡ true }
+    ensures ranged { result ≡ true → HaveRanges (all_of items.now) }
 {
     for item in items {
         if constructor_of(item) != code {
             return false;
         }
+        read_scalar(item);
     }
     true
 }

@@ -14,7 +14,7 @@ ghost use Rattle.amqp_value.specs.Noted.{NotesIf};
 use crate::Value;
 use crate::whole::bodies::Bodies;
 use crate::whole::constructors::{all_have, constructor_of, constructor_of_each, width_of};
-use crate::whole::ranges::{read_each, read_scalar};
+use crate::whole::ranges::read_scalar;
 use crate::whole::sizes::{
     NOT_MEASURED, array_size, compound_payload_size, descriptor_size, exact_size, int_size,
     list_size, long_size, map_size, text_payload_size, text_size, uint_size, ulong_size,
@@ -188,7 +188,6 @@ fn measure_content<B: Bodies>(items: &[Value], bodies: &mut B) -> usize
             }
             let width = width_of(code);
             if width > 0 {
-                read_each(items);
                 return items.len().saturating_mul(width).saturating_add(1);
             }
             measure_payloads(items, bodies).saturating_add(1)

@@ -32,7 +32,7 @@ measure_content-returns-then-width-gt0-clause-measured g t c ok =
     let code = c.constructor_of-code.result in
     let some : 0 < code = omega arith in
     let width : 0 < width_for code = rw c.width_of-width.ensures at c.if-width-gt0.true in
-    of_numbers c.args.items.now c.in-Some.first.now code c.saturating_mul.result c.saturating_add.result item.3.0 item.1 (c.constructor_of-code.ensures.some some) (c.all_have.ensures c.if-not-all_have.false some) width c.read_each.ensures
+    of_numbers c.args.items.now c.in-Some.first.now code c.saturating_mul.result c.saturating_add.result item.3.0 item.1 (c.constructor_of-code.ensures.some some) (c.all_have.ensures.each c.if-not-all_have.false some) width (c.all_have.ensures.ranged c.if-not-all_have.false)
     (rw c.width_of-width.ensures at c.saturating_mul.ensures) c.saturating_add.ensures ok
 
 pub measure-returns-in-Map-clause-noted : goal.measure-returns-in-Map-clause-noted
@@ -90,7 +90,7 @@ measure_content-returns-then-width-gt0-clause-noted g t c k =
     let some : 0 < code = omega arith in
     let width : 0 < width_for code = rw c.width_of-width.ensures at c.if-width-gt0.true in
     let a = g.B.Bodies.noted c.args.bodies.now in
-    (follows_itself a, λ ok. ap (λ x. x ++ a) (sym (numbers_without (all_of c.args.items.now) code (c.all_have.ensures c.if-not-all_have.false some) width)))
+    (follows_itself a, λ ok. ap (λ x. x ++ a) (sym (numbers_without (all_of c.args.items.now) code (c.all_have.ensures.each c.if-not-all_have.false some) width)))
 
 pub measure_items-returns-in-None-clause-noted : goal.measure_items-returns-in-None-clause-noted
 measure_items-returns-in-None-clause-noted g t c k =
