@@ -1,4 +1,4 @@
-use Rattle.std.proofs.Common.{◌≡◌, ◌<◌, ◌×◌, Some, true, drop}
+use Rattle.std.proofs.Common.{◌≡◌, ◌<◌, Some, true, drop}
 use Rattle.amqp_ser.specs.Writable.{each_constructor}
 use Rattle.amqp_value.specs.Measured.{HaveRanges}
 use Rattle.amqp_value.specs.TreeOf.{all_of}
