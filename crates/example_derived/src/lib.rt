@@ -10,8 +10,6 @@ mod item;
 mod limits;
 mod outcome;
 mod report;
-#[cfg(test)]
-mod tests;
 
 pub use catalogue::{Contact, Product, Shop};
 pub use choices::{Address, DeliveryNumber, Durability, Expiry, Role, Shape, Tag};

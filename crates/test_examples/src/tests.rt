@@ -5,6 +5,7 @@
 
 mod bench;
 mod composites;
+mod derived;
 mod reading;
 
 use amqp_data::Error;

@@ -1,8 +1,10 @@
 //! Encodings that are read as a type and written again, and encodings that are refused
 //! (AMQP 1.0 part 1, section 1.6).
 
-use crate::choices::{Address, DeliveryNumber, Durability, Expiry, Role, Shape, Tag};
-use crate::{Contact, Failure, Limits, Outcome, Position, Rejected};
+use example_derived::{
+    Address, Contact, DeliveryNumber, Durability, Expiry, Failure, Limits, Outcome, Position,
+    Rejected, Role, Shape, Tag,
+};
 use serde_amqp::de::Deserialize;
 use serde_amqp::decode::decode_value;
 use serde_amqp::ser::Serialize;
