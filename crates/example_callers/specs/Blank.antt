@@ -2,8 +2,8 @@
 --
 -- For readers who implement `Serializer`: a template, with `src/blank.rt`.
 use Rattle.std.specs.Prelude.{Option, None, Result, Ok, Err}
-use Rattle.amqp_data.specs.declared.error.Error.{Error}
-use Rattle.amqp_ser.specs.Tree.{Tree}
+use Rattle.serde_amqp.specs.Error.{Error}
+use Rattle.serde_amqp.specs.Tree.{Tree}
 use Rattle.example_callers.specs.declared.blank.Blank.{Blank}
 
 -- the result is an error

@@ -4,13 +4,13 @@
 -- For readers who implement `Serializer`: shows the definitions that its contract consists of, here
 -- that of `NodeCounter`.
 use Rattle.std.specs.Prelude.{◌≡◌, ℕ, ◌+◌, ◌^◌, ◌≤◌, ◌⊎◌, List, [], ◌∷◌, ◌++◌, Option, Some, None, Result, Ok, Err, false}
-use Rattle.amqp_data.specs.declared.error.Error.{Error}
-use Rattle.amqp_data.specs.declared.error.Error.TheVariants.{InvalidValue, TooLong}
-use Rattle.amqp_ser.specs.Tree.{Tree, Trees, Pairs, scalar, list, array, map, described, variant, lazy, transparent, no_trees, more, no_pairs, pair}
-use Rattle.amqp_ser.specs.Compounds.{all_trees, paired}
-use Rattle.amqp_ser.specs.declared.kind.CompoundKind.{CompoundKind}
-use Rattle.amqp_ser.specs.declared.kind.CompoundKind.TheVariants as kinds
-use Rattle.amqp_ser.specs.declared.marker.Marker.TheVariants as marker
+use Rattle.serde_amqp.specs.Error.{Error}
+use Rattle.serde_amqp.specs.Error.TheVariants.{InvalidValue, TooLong}
+use Rattle.serde_amqp.specs.Tree.{Tree, Trees, Pairs, scalar, list, array, map, described, variant, lazy, transparent, no_trees, more, no_pairs, pair}
+use Rattle.serde_amqp.specs.Compounds.{all_trees, paired}
+use Rattle.serde_amqp.specs.CompoundKind.{CompoundKind}
+use Rattle.serde_amqp.specs.CompoundKind.TheVariants as kinds
+use Rattle.serde_amqp.specs.Marker.TheVariants as marker
 use Rattle.example_callers.specs.PendingMarker.{fits, meant}
 use Rattle.example_callers.specs.declared.counter.Counting.{Counting}
 use Rattle.example_callers.specs.declared.counter.NodeCounter.{NodeCounter}

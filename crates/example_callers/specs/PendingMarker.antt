@@ -2,12 +2,12 @@
 --
 -- For readers who implement `Serializer`: the contracts of `src/pending_marker.rt` refer to it.
 use Rattle.std.specs.Prelude.{Option, Some, None, Bool, true, false}
-use Rattle.amqp_ser.specs.Tree.{Descriptor, Tree}
-use Rattle.amqp_ser.specs.Composites.{descriptor_of}
-use Rattle.amqp_ser.specs.Marked.{marked_tree}
-use Rattle.amqp_ser.specs.declared.kind.CompoundKind.{CompoundKind}
-use Rattle.amqp_ser.specs.declared.kind.CompoundKind.TheVariants as kinds
-use Rattle.amqp_ser.specs.declared.marker.Marker.TheVariants as marker
+use Rattle.serde_amqp.specs.Tree.{Descriptor, Tree}
+use Rattle.serde_amqp.specs.Composites.{descriptor_of}
+use Rattle.serde_amqp.specs.Marked.{marked_tree}
+use Rattle.serde_amqp.specs.CompoundKind.{CompoundKind}
+use Rattle.serde_amqp.specs.CompoundKind.TheVariants as kinds
+use Rattle.serde_amqp.specs.Marker.TheVariants as marker
 use Rattle.example_callers.specs.declared.pending_marker.PendingMarker.{PendingMarker}
 use Rattle.example_callers.specs.declared.pending_marker.PendingMarker.TheVariants as pending
 

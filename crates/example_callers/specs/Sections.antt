@@ -2,8 +2,8 @@
 --
 -- For newcomers: shows how to state the tree of a user-defined type outside of its `impl`.
 use Rattle.std.specs.Prelude.{[], ◌∷◌, Option}
-use Rattle.amqp_ser.specs.Tree.{Tree, code}
-use Rattle.amqp_ser.specs.Words.{required_value, optional_value, basic_composite, short_composite, of_binary, of_bool, of_i32, of_map, of_string, of_u8, of_u32, of_u64}
+use Rattle.serde_amqp.specs.Tree.{Tree, code}
+use Rattle.serde_amqp.specs.Words.{required_value, optional_value, basic_composite, short_composite, of_binary, of_bool, of_i32, of_map, of_string, of_u8, of_u32, of_u64}
 use Rattle.example_callers.specs.declared.message.Header.{Header}
 use Rattle.example_callers.specs.declared.message.Properties.{Properties}
 use Rattle.example_callers.specs.declared.message.Section.{Section}

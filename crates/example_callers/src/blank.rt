@@ -4,20 +4,20 @@
 //! then replace one method after another.
 
 ghost use Rattle.std.specs.Prelude.{◌≡◌, ◌++◌, ◌∷◌, [], ℕ, List, Option, None, Result, Err, MatchResult, IfErr, IsErr};
-ghost use Rattle.amqp_ser.specs.Tree.{Tree};
+ghost use Rattle.serde_amqp.specs.Tree.{Tree};
 
-use amqp_data::Error;
-use amqp_ser::{CompoundKind, Fixed, Marker, Serializer};
+use serde_amqp::Error;
+use serde_amqp::ser::{CompoundKind, Fixed, Marker, Serializer};
 
 /// A serializer that returns an error for every value.
 #[derive(Drop)]
 pub struct Blank;
 
 impl Serializer for Blank {
-    ghost use Rattle.amqp_ser.specs.declared.kind.CompoundKind.{CompoundKind};
+    ghost use Rattle.serde_amqp.specs.CompoundKind.{CompoundKind};
     ghost use Rattle.example_callers.specs.Blank.{BlankPermits, Refuses, no_answer};
-    ghost use Rattle.amqp_ser.specs.Compounds.{tree_of_parts};
-    ghost use Rattle.amqp_ser.specs.Composites.{as_described, descriptor_of};
+    ghost use Rattle.serde_amqp.specs.Compounds.{tree_of_parts};
+    ghost use Rattle.serde_amqp.specs.Composites.{as_described, descriptor_of};
 
     type Ok = ();
 

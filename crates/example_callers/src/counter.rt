@@ -4,13 +4,13 @@
 //! contract are in `specs/Nodes.antt`, and the proofs in `proofs/`.
 
 ghost use Rattle.std.specs.Prelude.{◌≡◌, ◌≤◌, ◌+◌, ◌^◌, Option, None, Result, Ok, Err, MatchResult, IfErr, IsErr, true, false};
-ghost use Rattle.amqp_data.specs.declared.error.Error.TheVariants.{InvalidValue, TooLong};
-ghost use Rattle.amqp_ser.specs.Tree.{Tree};
+ghost use Rattle.serde_amqp.specs.Error.TheVariants.{InvalidValue, TooLong};
+ghost use Rattle.serde_amqp.specs.Tree.{Tree};
 ghost use Rattle.example_callers.specs.Nodes.{CountsNodes, fresh};
 
 use crate::pending_marker::PendingMarker;
-use amqp_data::Error;
-use amqp_ser::{CompoundKind, Fixed, Marker, Serialize, Serializer};
+use serde_amqp::Error;
+use serde_amqp::ser::{CompoundKind, Fixed, Marker, Serialize, Serializer};
 use std::mem;
 
 /// A serializer that counts the nodes of a tree.
@@ -90,9 +90,9 @@ impl NodeCounter {
 }
 
 impl Serializer for NodeCounter {
-    ghost use Rattle.amqp_ser.specs.declared.kind.CompoundKind.{CompoundKind};
-    ghost use Rattle.amqp_ser.specs.Ends.{EndsPart, EndsDescriptor};
-    ghost use Rattle.amqp_ser.specs.Composites.{descriptor_of};
+    ghost use Rattle.serde_amqp.specs.CompoundKind.{CompoundKind};
+    ghost use Rattle.serde_amqp.specs.Ends.{EndsPart, EndsDescriptor};
+    ghost use Rattle.serde_amqp.specs.Composites.{descriptor_of};
     ghost use Rattle.example_callers.specs.Nodes.{Awaits, AwaitsDescriptor, Has, Permits, no_count_on_none};
 
     type Ok = u64;

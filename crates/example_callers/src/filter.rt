@@ -5,11 +5,12 @@
 
 ghost use Rattle.std.specs.Prelude.{◌≡◌, ℤ};
 ghost use Rattle.std.specs.Map.{lookup};
-ghost use Rattle.amqp_data.specs.Pairs.{entries_of};
+ghost use Rattle.serde_amqp.specs.Pairs.{entries_of};
 ghost use Rattle.example_callers.specs.Kept.{is_kept};
 
-use amqp_data::{OrderedMap, Symbol};
-use amqp_value::{ConvertFault, Value};
+use serde_amqp::Value;
+use serde_amqp::primitives::{OrderedMap, Symbol};
+use serde_amqp::value::ConvertFault;
 
 /// Converts the untyped value of the properties of a message into a map.
 ///

@@ -21,16 +21,16 @@ mod reading;
 mod room;
 mod rows;
 
-use amqp_data::{ByteBuf, Error, OrderedMap, Symbol, TransparentVec};
-use amqp_decode::decode_value;
-use amqp_frame::{LazyValue, SliceReader};
-use amqp_size::serialized_size;
-use amqp_to_value::to_value;
-use amqp_value::Value;
 use counter::count_nodes;
 use filter::{has_at_least, properties_of};
 use message::{Header, Properties, Section};
 use room::bytes_for_frame;
+use serde_amqp::decode::decode_value;
+use serde_amqp::extensions::TransparentVec;
+use serde_amqp::lazy::LazyValue;
+use serde_amqp::primitives::{ByteBuf, OrderedMap, Symbol};
+use serde_amqp::read::SliceReader;
+use serde_amqp::{Error, Value, serialized_size, to_value};
 use std::alloc::Global;
 use std::process::ExitCode;
 

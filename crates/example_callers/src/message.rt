@@ -5,8 +5,8 @@
 
 ghost use Rattle.example_callers.specs.Sections.{of_header, of_properties, of_section};
 
-use amqp_data::{ByteBuf, OrderedMap};
-use amqp_ser::{ListOf, Serialize, SerializeCompounds, Serializer, fields};
+use serde_amqp::primitives::{ByteBuf, OrderedMap};
+use serde_amqp::ser::{ListOf, Serialize, SerializeCompounds, Serializer, fields};
 
 /// The header of a message: details of its delivery (AMQP 1.0 part 3, section 3.2.1). The first
 /// three fields.

@@ -4,14 +4,14 @@
 //! several markers combine into one.
 
 ghost use Rattle.std.specs.Prelude.{◌≡◌, ℕ, List, Option, Some, is_some};
-ghost use Rattle.amqp_ser.specs.Composites.{as_described};
-ghost use Rattle.amqp_ser.specs.Fixed.{fixed_scalar};
-ghost use Rattle.amqp_ser.specs.Marked.{with_marker};
-ghost use Rattle.amqp_ser.specs.Tree.{Descriptor, Tree, scalar, string, binary};
+ghost use Rattle.serde_amqp.specs.Composites.{as_described};
+ghost use Rattle.serde_amqp.specs.Fixed.{fixed_scalar};
+ghost use Rattle.serde_amqp.specs.Marked.{with_marker};
+ghost use Rattle.serde_amqp.specs.Tree.{Descriptor, Tree, scalar, string, binary};
 ghost use Rattle.example_callers.specs.PendingMarker.{fits, meant};
 
-use amqp_frame::is_frame;
-use amqp_ser::{CompoundKind, Fixed, Marker};
+use serde_amqp::lazy::is_frame;
+use serde_amqp::ser::{CompoundKind, Fixed, Marker};
 
 /// A requirement on the next tree.
 #[derive(Clone, Copy)]

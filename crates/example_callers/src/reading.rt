@@ -4,11 +4,11 @@
 //! tree of the list. It needs no proof file.
 
 ghost use Rattle.std.specs.Prelude.{[], ◌∷◌, Some, string_bytes};
-ghost use Rattle.amqp_ser.specs.Tree.{scalar, string, uint, int};
-ghost use Rattle.amqp_ser.specs.Compounds.{tree_of_parts};
-ghost use Rattle.amqp_ser.specs.declared.kind.CompoundKind.TheVariants.{List};
+ghost use Rattle.serde_amqp.specs.Tree.{scalar, string, uint, int};
+ghost use Rattle.serde_amqp.specs.Compounds.{tree_of_parts};
+ghost use Rattle.serde_amqp.specs.CompoundKind.TheVariants.{List};
 
-use amqp_ser::{Serialize, SerializeCompounds, Serializer};
+use serde_amqp::ser::{Serialize, SerializeCompounds, Serializer};
 
 /// A reading of a thermometer.
 #[derive(Debug, Drop)]

@@ -4,13 +4,11 @@
 //! that states the bytes of the result.
 
 ghost use Rattle.std.specs.Prelude.{◌≡◌, ◌≤◌, IfOk, Some, length};
-ghost use Rattle.amqp_ser.specs.Encoding.{encoding};
-ghost use Rattle.amqp_ser.specs.Tree.{Tree};
+ghost use Rattle.serde_amqp.specs.Encoding.{encoding};
+ghost use Rattle.serde_amqp.specs.Tree.{Tree};
 
-use amqp_data::Error;
-use amqp_ser::Serialize;
-use amqp_size::serialized_size;
-use amqp_wire::to_vec;
+use serde_amqp::ser::Serialize;
+use serde_amqp::{Error, serialized_size, to_vec};
 use std::alloc::Global;
 
 /// Returns the encoding of `value`, which has at most `room` bytes.

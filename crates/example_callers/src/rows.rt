@@ -3,8 +3,7 @@
 mod filter;
 mod nodes;
 
-use amqp_data::Error;
-use amqp_value::Value;
+use serde_amqp::{Error, Value};
 
 /// Returns whether each row has the expected result. Prints the name and the result of one that has
 /// not.

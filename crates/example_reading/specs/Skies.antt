@@ -8,12 +8,12 @@ use Rattle.amqp_de.specs.declared.enums.variants.Never.{Never}
 use Rattle.amqp_de.specs.declared.enums.variants.Either.{Either}
 use Rattle.amqp_de.specs.declared.enums.variants.Either.TheVariants.{This, Other}
 use Rattle.amqp_de.specs.declared.fields.FieldValues.{FieldValues}
-use Rattle.amqp_de.specs.Parts.{◌▸◌}
-use Rattle.amqp_ser.specs.Carried.{optional}
-use Rattle.amqp_ser.specs.Compounds.{tree_of_parts}
-use Rattle.amqp_ser.specs.Tree.{Tree}
-use Rattle.amqp_ser.specs.Words.{variant_of, of_string, of_u8, of_u16, of_u32}
-use Rattle.amqp_ser.specs.declared.kind.CompoundKind.TheVariants as kind
+use Rattle.serde_amqp.specs.Parts.{◌▸◌}
+use Rattle.serde_amqp.specs.Carried.{optional}
+use Rattle.serde_amqp.specs.Compounds.{tree_of_parts}
+use Rattle.serde_amqp.specs.Tree.{Tree}
+use Rattle.serde_amqp.specs.Words.{variant_of, of_string, of_u8, of_u16, of_u32}
+use Rattle.serde_amqp.specs.CompoundKind.TheVariants as kind
 use Rattle.example_reading.specs.declared.sky.Sky.{Sky}
 use Rattle.example_reading.specs.declared.sky.Sky.TheVariants as sky
 

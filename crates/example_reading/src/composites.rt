@@ -3,13 +3,12 @@
 //! For readers who need types with a descriptor: `Span` is a list, `Title` one value, and `Limits`
 //! a list that is also read from a map of field names.
 
-use amqp_data::Symbol;
-use amqp_de::de::{Deserialize, Deserializer, GaveUp};
-use amqp_de::{
-    FieldValues, ListSeed, NamedSeed, Record, TypeSeed, named, read_composite_encoded,
-    read_described, values,
+use serde_amqp::de::{
+    Deserialize, Deserializer, FieldValues, GaveUp, ListSeed, NamedSeed, Record, TypeSeed, named,
+    read_composite_encoded, read_described, values,
 };
-use amqp_ser::{ListOf, Serialize, SerializeCompounds, Serializer, fields};
+use serde_amqp::primitives::Symbol;
+use serde_amqp::ser::{ListOf, Serialize, SerializeCompounds, Serializer, fields};
 use std::alloc::Global;
 use std::marker::PhantomData;
 
@@ -20,8 +19,8 @@ pub struct Span(pub u64, pub u64);
 
 impl Serialize for Span {
     ghost use Rattle.std.specs.Prelude.{[], ◌∷◌};
-    ghost use Rattle.amqp_ser.specs.Tree.{code};
-    ghost use Rattle.amqp_ser.specs.Words.{list_composite, of_u64};
+    ghost use Rattle.serde_amqp.specs.Tree.{code};
+    ghost use Rattle.serde_amqp.specs.Words.{list_composite, of_u64};
 
     ghost tree = { λ s. list_composite (code 0x16) (
         of_u64 s.0 ∷ of_u64 s.1 ∷ []) };
@@ -32,7 +31,7 @@ impl Serialize for Span {
 }
 
 impl Record for Span {
-    ghost use Rattle.amqp_de.specs.Parts.{◌▸◌};
+    ghost use Rattle.serde_amqp.specs.Parts.{◌▸◌};
 
     type Values = FieldValues<u64, FieldValues<u64, ()>>;
 
@@ -41,9 +40,9 @@ impl Record for Span {
 
 impl Deserialize for Span {
     ghost use Rattle.std.specs.Prelude.{◌≡◌, [], ◌∷◌, codes};
-    ghost use Rattle.amqp_ser.specs.Tree.{code, described, list, scalar, trees_of, ulong};
-    ghost use Rattle.amqp_de.specs.Fields.{OnDescribed, OnFields, ReadsRequired, NoMoreFields};
-    ghost use Rattle.amqp_de.specs.Reads.{Always};
+    ghost use Rattle.serde_amqp.specs.Tree.{code, described, list, scalar, trees_of, ulong};
+    ghost use Rattle.serde_amqp.specs.Fields.{OnDescribed, OnFields, ReadsRequired, NoMoreFields};
+    ghost use Rattle.serde_amqp.specs.Reads.{Always};
 
     ghost reads = { λ t s. OnDescribed (code 0x16) (OnFields (
         ReadsRequired (codes "0") ⟦<u64 as Deserialize>⟧.reads s.0 (
@@ -72,8 +71,8 @@ impl Deserialize for Span {
 pub struct Title(pub String);
 
 impl Serialize for Title {
-    ghost use Rattle.amqp_ser.specs.Tree.{code};
-    ghost use Rattle.amqp_ser.specs.Words.{basic_composite, of_string};
+    ghost use Rattle.serde_amqp.specs.Tree.{code};
+    ghost use Rattle.serde_amqp.specs.Words.{basic_composite, of_string};
 
     ghost tree = { λ x. basic_composite (code 0x13) (of_string x.0) };
 
@@ -90,9 +89,9 @@ impl Record for Title {
 
 impl Deserialize for Title {
     ghost use Rattle.std.specs.Prelude.{◌≡◌, string_bytes};
-    ghost use Rattle.amqp_ser.specs.Tree.{code, described, scalar, string};
-    ghost use Rattle.amqp_de.specs.Fields.{OnDescribed};
-    ghost use Rattle.amqp_de.specs.Reads.{Always};
+    ghost use Rattle.serde_amqp.specs.Tree.{code, described, scalar, string};
+    ghost use Rattle.serde_amqp.specs.Fields.{OnDescribed};
+    ghost use Rattle.serde_amqp.specs.Reads.{Always};
 
     ghost reads = { λ t x. OnDescribed (code 0x13) (
         λ u. ⟦<String as Deserialize>⟧.reads u x.0) t };
@@ -140,9 +139,9 @@ pub struct Limits {
 
 impl Serialize for Limits {
     ghost use Rattle.std.specs.Prelude.{[], ◌∷◌};
-    ghost use Rattle.amqp_ser.specs.Carried.{optional};
-    ghost use Rattle.amqp_ser.specs.Tree.{code};
-    ghost use Rattle.amqp_ser.specs.Words.{list_composite, of_i32, of_symbol};
+    ghost use Rattle.serde_amqp.specs.Carried.{optional};
+    ghost use Rattle.serde_amqp.specs.Tree.{code};
+    ghost use Rattle.serde_amqp.specs.Words.{list_composite, of_i32, of_symbol};
 
     ghost tree = { λ l. list_composite (code 0x14) (
         of_i32 l.lowest ∷ of_i32 l.highest ∷ optional of_symbol l.unit ∷ []) };
@@ -160,7 +159,7 @@ impl Serialize for Limits {
 }
 
 impl Record for Limits {
-    ghost use Rattle.amqp_de.specs.Parts.{◌▸◌};
+    ghost use Rattle.serde_amqp.specs.Parts.{◌▸◌};
 
     type Values = FieldValues<i32, FieldValues<i32, FieldValues<Option<Symbol>, ()>>>;
 
@@ -169,8 +168,8 @@ impl Record for Limits {
 
 impl Deserialize for Limits {
     ghost use Rattle.std.specs.Prelude.{◌≡◌, [], ◌∷◌, codes};
-    ghost use Rattle.amqp_ser.specs.Tree.{code, described, int, list, scalar, trees_of};
-    ghost use Rattle.amqp_de.specs.Fields.{OnDescribed, OnNamed, ReadsRequired, ReadsOptional, NoMoreFields};
+    ghost use Rattle.serde_amqp.specs.Tree.{code, described, int, list, scalar, trees_of};
+    ghost use Rattle.serde_amqp.specs.Fields.{OnDescribed, OnNamed, ReadsRequired, ReadsOptional, NoMoreFields};
 
     ghost reads = { λ t l. OnDescribed (code 0x14) (OnNamed (
         ReadsRequired (codes "lowest") ⟦<i32 as Deserialize>⟧.reads l.lowest (

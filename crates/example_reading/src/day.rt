@@ -3,7 +3,7 @@
 //! For readers whose fields are collections, or whose descriptors are symbols. `tools/derive` writes
 //! the impls from the annotations.
 
-use amqp_data::Symbol;
+use serde_amqp::primitives::Symbol;
 use std::collections::BTreeMap;
 
 /// The measurements of a station on one day: a list of the fields.

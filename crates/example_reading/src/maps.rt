@@ -3,9 +3,10 @@
 //! For readers who need maps instead of lists: `Calibration` is a described map, `Contact` a map
 //! without a descriptor. Absent fields are omitted.
 
-use amqp_de::de::{Deserialize, Deserializer};
-use amqp_de::{FieldValues, Record, named, read_described_map, read_map, values};
-use amqp_ser::{MapOf, Serialize, SerializeCompounds, Serializer, fields};
+use serde_amqp::de::{
+    Deserialize, Deserializer, FieldValues, Record, named, read_described_map, read_map, values,
+};
+use serde_amqp::ser::{MapOf, Serialize, SerializeCompounds, Serializer, fields};
 use std::alloc::Global;
 
 /// Corrections to the readings of a thermometer: a map described by the code 0x15.
@@ -18,9 +19,9 @@ pub struct Calibration {
 
 impl Serialize for Calibration {
     ghost use Rattle.std.specs.Prelude.{Some, [], ◌∷◌, codes};
-    ghost use Rattle.amqp_ser.specs.Composites.{as_described};
-    ghost use Rattle.amqp_ser.specs.Tree.{code};
-    ghost use Rattle.amqp_ser.specs.Words.{short_map_of, required_value, optional_value, of_i32, of_string, of_u32};
+    ghost use Rattle.serde_amqp.specs.Composites.{as_described};
+    ghost use Rattle.serde_amqp.specs.Tree.{code};
+    ghost use Rattle.serde_amqp.specs.Words.{short_map_of, required_value, optional_value, of_i32, of_string, of_u32};
 
     ghost tree = { λ c. as_described (Some (code 0x15)) (short_map_of (
         (codes "offset", required_value (of_i32 c.offset)) ∷ (codes "divisor", optional_value of_u32 c.divisor)
@@ -39,7 +40,7 @@ impl Serialize for Calibration {
 }
 
 impl Record for Calibration {
-    ghost use Rattle.amqp_de.specs.Parts.{◌▸◌};
+    ghost use Rattle.serde_amqp.specs.Parts.{◌▸◌};
 
     type Values = FieldValues<i32, FieldValues<Option<u32>, FieldValues<Option<String>, ()>>>;
 
@@ -48,9 +49,9 @@ impl Record for Calibration {
 
 impl Deserialize for Calibration {
     ghost use Rattle.std.specs.Prelude.{◌≡◌, [], ◌∷◌, codes};
-    ghost use Rattle.amqp_ser.specs.Tree.{code, described, int, scalar};
-    ghost use Rattle.amqp_de.specs.Fields.{OnDescribed, OnNamed, ReadsRequired, ReadsOptional, NoMoreFields};
-    ghost use Rattle.amqp_de.specs.Present.{short_map, required, optional};
+    ghost use Rattle.serde_amqp.specs.Tree.{code, described, int, scalar};
+    ghost use Rattle.serde_amqp.specs.Fields.{OnDescribed, OnNamed, ReadsRequired, ReadsOptional, NoMoreFields};
+    ghost use Rattle.serde_amqp.specs.Present.{short_map, required, optional};
 
     ghost reads = { λ t c. OnDescribed (code 0x15) (OnNamed (
         ReadsRequired (codes "offset") ⟦<i32 as Deserialize>⟧.reads c.offset (
@@ -96,7 +97,7 @@ pub struct Contact {
 
 impl Serialize for Contact {
     ghost use Rattle.std.specs.Prelude.{[], ◌∷◌, codes};
-    ghost use Rattle.amqp_ser.specs.Words.{short_map_of, required_value, optional_value, of_string};
+    ghost use Rattle.serde_amqp.specs.Words.{short_map_of, required_value, optional_value, of_string};
 
     ghost tree = { λ c. short_map_of ((codes "name", required_value (of_string c.name))
         ∷ (codes "telephone", optional_value of_string c.telephone) ∷ []) };
@@ -107,7 +108,7 @@ impl Serialize for Contact {
 }
 
 impl Record for Contact {
-    ghost use Rattle.amqp_de.specs.Parts.{◌▸◌};
+    ghost use Rattle.serde_amqp.specs.Parts.{◌▸◌};
 
     type Values = FieldValues<String, FieldValues<Option<String>, ()>>;
 
@@ -116,9 +117,9 @@ impl Record for Contact {
 
 impl Deserialize for Contact {
     ghost use Rattle.std.specs.Prelude.{◌≡◌, [], ◌∷◌, codes, string_bytes};
-    ghost use Rattle.amqp_ser.specs.Tree.{scalar, string};
-    ghost use Rattle.amqp_de.specs.Fields.{OnNamed, ReadsRequired, ReadsOptional, NoMoreFields};
-    ghost use Rattle.amqp_de.specs.Present.{short_map, required, optional};
+    ghost use Rattle.serde_amqp.specs.Tree.{scalar, string};
+    ghost use Rattle.serde_amqp.specs.Fields.{OnNamed, ReadsRequired, ReadsOptional, NoMoreFields};
+    ghost use Rattle.serde_amqp.specs.Present.{short_map, required, optional};
 
     ghost reads = { λ t c. OnNamed (
         ReadsRequired (codes "name") ⟦<String as Deserialize>⟧.reads c.name (

@@ -4,14 +4,12 @@
 //! field holds untyped values, and [`Region::regions`] reads them, one level at a time.
 
 ghost use Rattle.std.specs.Prelude.{◌≡◌};
-ghost use Rattle.amqp_data.specs.declared.error.Error.TheVariants.{OutOfMemory};
-ghost use Rattle.amqp_value.specs.TreeOf.{tree_of};
-ghost use Rattle.amqp_value.specs.declared.value.Value.TheVariants as value;
-ghost use Rattle.amqp_de.specs.Answers.{Answers, Restores};
+ghost use Rattle.serde_amqp.specs.Error.TheVariants.{OutOfMemory};
+ghost use Rattle.serde_amqp.specs.TreeOf.{tree_of};
+ghost use Rattle.serde_amqp.specs.Value.TheVariants as value;
+ghost use Rattle.serde_amqp.specs.Answers.{Answers, Restores};
 
-use amqp_data::Error;
-use amqp_from_value::from_value;
-use amqp_value::Value;
+use serde_amqp::{Error, Value, from_value};
 
 /// A region and the regions in it: a list of its two fields.
 // amqp: encoding = "list", full

@@ -3,8 +3,8 @@
 //! For readers with many fields. `tools/derive` writes the impls from the annotation.
 
 use crate::position::Position;
-use amqp_data::{ByteBuf, OrderedMap, Symbol, Timestamp};
-use amqp_value::Value;
+use serde_amqp::Value;
+use serde_amqp::primitives::{ByteBuf, OrderedMap, Symbol, Timestamp};
 
 /// What an observer reports: a list described by the code 0x18.
 // amqp: encoding = "list", code = 0x18, rename_all = "kebab-case"

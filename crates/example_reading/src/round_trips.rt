@@ -9,8 +9,8 @@ use crate::composites::{Limits, Span, Title};
 use crate::day::Day;
 use crate::maps::{Calibration, Contact};
 use crate::sky::Sky;
-use amqp_data::Symbol;
-use amqp_round_trip::{MapKey, RoundTrip, laws};
+use serde_amqp::primitives::Symbol;
+use serde_amqp::value::{MapKey, RoundTrip, laws};
 use std::collections::BTreeMap;
 
 impl RoundTrip for Span {

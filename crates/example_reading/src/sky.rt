@@ -3,12 +3,14 @@
 //! For readers who write and read their own enums. The tree of `Sky` and the parts of its variants
 //! are defined in `specs/Skies.antt`.
 
-use amqp_de::de::{Deserialize, Deserializer};
-use amqp_de::{
-    DataVariant, DeserializeSeed, Either, EnumSeed, FieldValues, ListSeed, Never, Optional, Record,
-    Required, TypeSeed, UnitVariant, named, read, values, variant, variants,
+use serde_amqp::de::{
+    DataVariant, Deserialize, DeserializeSeed, Deserializer, Either, EnumSeed, FieldValues,
+    ListSeed, Never, Optional, Record, Required, TypeSeed, UnitVariant, named, read, values,
+    variant, variants,
 };
-use amqp_ser::{Serialize, SerializeCompounds, SerializeScalars, Serializer, VariantOf, fields};
+use serde_amqp::ser::{
+    Serialize, SerializeCompounds, SerializeScalars, Serializer, VariantOf, fields,
+};
 use std::alloc::Global;
 
 /// The state of the sky.
@@ -77,8 +79,8 @@ impl Record for Sky {
 
 impl Deserialize for Sky {
     ghost use Rattle.std.specs.Prelude.{codes};
-    ghost use Rattle.amqp_de.specs.Enums.{OnEnum, IsUnitVariant, IsDataVariant, IsNoVariant};
-    ghost use Rattle.amqp_de.specs.Fields.{OnFields, ReadsRequired, ReadsOptional, NoMoreFields};
+    ghost use Rattle.serde_amqp.specs.Enums.{OnEnum, IsUnitVariant, IsDataVariant, IsNoVariant};
+    ghost use Rattle.serde_amqp.specs.Fields.{OnFields, ReadsRequired, ReadsOptional, NoMoreFields};
     ghost use Rattle.example_reading.specs.Skies.{sky_parts};
 
     ghost reads = { λ t s. OnEnum (

@@ -21,6 +21,8 @@ pub use Rattle.amqp_ser.specs.Carried
 pub use Rattle.amqp_ser.specs.Composites
 pub use Rattle.amqp_ser.specs.Compounds
 pub use Rattle.amqp_ser.specs.Encoding
+pub use Rattle.amqp_ser.specs.Ends
+pub use Rattle.amqp_ser.specs.Fixed
 pub use Rattle.amqp_ser.specs.Limits
 pub use Rattle.amqp_ser.specs.Marked
 pub use Rattle.amqp_ser.specs.Named
@@ -37,4 +39,12 @@ pub use Rattle.amqp_value.specs.Plain
 pub use Rattle.amqp_value.specs.Sound
 pub use Rattle.amqp_value.specs.Text
 pub use Rattle.amqp_value.specs.TreeOf
+pub use Rattle.amqp_value.specs.declared.value.Value
 pub use Rattle.amqp_decode.specs.Depth
+pub use Rattle.amqp_de.specs.Answers
+pub use Rattle.amqp_de.specs.Defaults
+pub use Rattle.amqp_de.specs.Enums
+pub use Rattle.amqp_de.specs.Fields
+pub use Rattle.amqp_de.specs.Parts
+pub use Rattle.amqp_de.specs.Present
+pub use Rattle.amqp_de.specs.Reads

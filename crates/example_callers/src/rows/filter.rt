@@ -4,8 +4,9 @@
 
 use super::{wrong, wrong_value};
 use crate::filter::{has_at_least, properties_of};
-use amqp_data::{OrderedMap, Symbol};
-use amqp_value::{ConvertFault, Value};
+use serde_amqp::Value;
+use serde_amqp::primitives::{OrderedMap, Symbol};
+use serde_amqp::value::ConvertFault;
 use std::alloc::Global;
 
 /// Returns whether each row has the expected result.

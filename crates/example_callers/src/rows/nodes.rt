@@ -3,15 +3,17 @@
 //! Shows readers of `counter` which trees have how many nodes, and which values have no tree.
 
 ghost use Rattle.std.specs.Prelude.{Some};
-ghost use Rattle.amqp_ser.specs.Composites.{as_described, descriptor_of};
-ghost use Rattle.amqp_ser.specs.Marked.{with_marker, marker_of};
-ghost use Rattle.amqp_ser.specs.Tree.{scalar, ubyte};
+ghost use Rattle.serde_amqp.specs.Composites.{as_described, descriptor_of};
+ghost use Rattle.serde_amqp.specs.Marked.{with_marker, marker_of};
+ghost use Rattle.serde_amqp.specs.Tree.{scalar, ubyte};
 
 use super::{wrong, wrong_error, wrong_number};
 use crate::counter::count_nodes;
 use crate::reading::Reading;
-use amqp_data::{Described, Descriptor, Error, markers};
-use amqp_ser::{Serialize, SerializeCompounds, Serializer};
+use serde_amqp::Error;
+use serde_amqp::described::Described;
+use serde_amqp::descriptor::Descriptor;
+use serde_amqp::ser::{Serialize, SerializeCompounds, Serializer, markers};
 use std::alloc::Global;
 
 /// A newtype with any name, such as that of a marker.
