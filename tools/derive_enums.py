@@ -76,7 +76,9 @@ def restricted(t):
         body = match_self([(f"{t.name}::{v.name}", f'{v.value}{"" if t.source == "bool" else t.source}.serialize(serializer)')
                            for v in t.variants])
     out += [serialize(t, f"Some ({tree})", body)] if t.writes else []
-    from_bytes = f"<{t.source} as Deserialize>::read_encoded(alloc, code, input, depth)"
+    # the file need not import the source of a restricted type
+    path = "serde_amqp::primitives::Symbol" if t.source == "Symbol" else t.source
+    from_bytes = f"<{path} as Deserialize>::read_encoded(alloc, code, input, depth)"
     if text:
         got = "text.as_inner().as_str()" if t.source == "Symbol" else "text.as_str()"
         body = f"        match deserializer.open() {{\n            Content::{content}(text) => {{\n" \

@@ -251,7 +251,9 @@ impl Deserialize for Expiry {
         input: &mut &[u8],
         depth: u16,
     ) -> Result<Expiry, GaveUp> {
-        let text = <Symbol as Deserialize>::read_encoded(alloc, code, input, depth)?;
+        let text = <serde_amqp::primitives::Symbol as Deserialize>::read_encoded(
+            alloc, code, input, depth,
+        )?;
         let text = text.as_inner().as_str();
         if text == "link-detach" {
             return Ok(Expiry::LinkDetach);
