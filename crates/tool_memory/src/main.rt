@@ -30,7 +30,7 @@
 //! | the same | `OrderedMap::try_from`, `BTreeMap::try_from`, `HashMap::try_from`, `IndexMap::try_from` |
 //! | the same | `TryFromSerializable::try_from_serializable` |
 //! | maps and clones | `OrderedMap::with_capacity`, `OrderedMap::reserve`, `OrderedMap::extend`, `OrderedMap::lookup` |
-//! | built values | `BuildList::new`, `BuildList::finish`, `BuildMap::new`, `BuildMap::finish`, `IntoValue::into_value`, `SymbolRef::into_value` |
+//! | built values | `BuildList::new`, `BuildList::finish`, `BuildMap::new`, `BuildMap::finish`, `IntoValue::into_value` |
 //! | rows of decode and decode_within | `decode_value`, `decode_value_limited`, `decode_value_to_depth` |
 //! | rows of read_within | `from_slice_limited`, `from_reader_limited` |
 //! | rows of decode and read | `MapBuilder::new`, `MapBuilder::with_capacity`, `MapBuilder::into_value` |
