@@ -70,25 +70,35 @@ fn texts(rt: &HostRuntime) -> Result<bool, Error> {
     )
 }
 
+// Returns whether the value was found and is the expected one.
+fn finds(rt: &HostRuntime, name: &str, found: Option<&Value>, expected: &Value) -> bool {
+    match found {
+        Some(value) => is(rt, name, value, expected),
+        None => is(rt, name, &false, &true),
+    }
+}
+
+fn items(rt: &HostRuntime, pairs: &Value, items: &Value, elements: &Value) -> bool {
+    finds(rt, "first text", pairs.get("a"), &Value::Ubyte(2))
+        & finds(rt, "second text", pairs.get("b"), &Value::Ubyte(4))
+        & is(rt, "no such text", &pairs.get("c").is_none(), &true)
+        & is(rt, "text of a list", &items.get("a").is_none(), &true)
+        & finds(rt, "item", items.index(1), &Value::Null)
+        & is(rt, "past the items", &items.index(2).is_none(), &true)
+        & finds(rt, "element", elements.index(1), &Value::Ubyte(2))
+}
+
 fn containers(rt: &HostRuntime) -> Result<bool, Error> {
     let pairs = entries(rt)?;
-    let items = list(rt, [Value::Ubyte(1), Value::Null]);
+    let list = list(rt, [Value::Ubyte(1), Value::Null]);
     let elements = array(rt, [Value::Ubyte(1), Value::Ubyte(2)]);
-    Ok(
-        is(rt, "first text", &pairs.get("a"), &Some(&Value::Ubyte(2)))
-            & is(rt, "second text", &pairs.get("b"), &Some(&Value::Ubyte(4)))
-            & is(rt, "no such text", &pairs.get("c"), &None)
-            & is(rt, "text of a list", &items.get("a"), &None)
-            & is(rt, "item", &items.index(1), &Some(&Value::Null))
-            & is(rt, "past the items", &items.index(2), &None)
-            & is(rt, "element", &elements.index(1), &Some(&Value::Ubyte(2)))
-            & is(rt, "entries", &pairs.len(), &Some(4))
-            & is(rt, "length of null", &Value::Null.len(), &None)
-            & is(rt, "kind", &elements.kind(), &ValueKind::Array)
-            & is(rt, "list", &elements.as_list().is_none(), &true)
-            & is(rt, "map", &pairs.as_map().is_some(), &true)
-            & is(rt, "into_list", &pairs.into_list().is_err(), &true),
-    )
+    let looked = items(rt, &pairs, &list, &elements)
+        & is(rt, "entries", &pairs.len(), &Some(4))
+        & is(rt, "length of null", &Value::Null.len(), &None)
+        & is(rt, "kind", &elements.kind(), &ValueKind::Array)
+        & is(rt, "list", &elements.as_list().is_none(), &true)
+        & is(rt, "map", &pairs.as_map().is_some(), &true);
+    Ok(looked & is(rt, "into_list", &pairs.into_list().is_err(), &true))
 }
 
 fn changes(rt: &HostRuntime) -> Result<bool, Error> {

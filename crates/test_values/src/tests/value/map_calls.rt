@@ -4,6 +4,7 @@ use crate::tests::rows::{gives, is};
 use crate::tests::values::ordered_map;
 use amqp_data::{Error, OrderedMap, Symbol, Uuid};
 use amqp_value::Value;
+use std::fmt::Debug;
 use std::test::Fail;
 
 fn numbered(rt: &HostRuntime, numbers: [u8; 3]) -> OrderedMap<Value, Value> {
@@ -18,30 +19,61 @@ fn numbered(rt: &HostRuntime, numbers: [u8; 3]) -> OrderedMap<Value, Value> {
     )
 }
 
+// Returns whether the value was found and is the expected one.
+fn finds<T: Debug + PartialEq>(
+    rt: &HostRuntime,
+    name: &str,
+    found: Option<&T>,
+    expected: &T,
+) -> bool {
+    match found {
+        Some(value) => is(rt, name, value, expected),
+        None => is(rt, name, &false, &true),
+    }
+}
+
+// Returns whether the entry was found and has this number as its key.
+fn has_key(rt: &HostRuntime, name: &str, found: Option<(&Value, &Value)>, number: u8) -> bool {
+    match found {
+        Some((key, _)) => is(rt, name, key, &Value::Ubyte(number)),
+        None => is(rt, name, &false, &true),
+    }
+}
+
+fn are_found(rt: &HostRuntime, all: &OrderedMap<Value, Value>) -> Result<bool, Error> {
+    let index = all.lookup(rt.alloc())?;
+    Ok(
+        finds(rt, "lookup", index.get(&Value::Ubyte(2)), &Value::Null)
+            & is(
+                rt,
+                "no such key",
+                &index.get(&Value::Ubyte(4)).is_none(),
+                &true,
+            )
+            & has_key(rt, "first", all.first(), 3)
+            & has_key(rt, "last", all.last(), 2)
+            & is(rt, "keys", &all.keys().count(), &3)
+            & is(rt, "contains", &all.contains_key(&Value::Ubyte(1)), &true),
+    )
+}
+
+fn names(rt: &HostRuntime) -> Result<bool, Error> {
+    let mut names = OrderedMap::new(rt.alloc());
+    drop(names.insert(Symbol::try_from_str(rt.alloc(), "a")?, 1u8)?);
+    Ok(
+        finds(rt, "get_str", names.get_str("a"), &1)
+            & is(
+                rt,
+                "get_str of another",
+                &names.get_str("b").is_none(),
+                &true,
+            ),
+    )
+}
+
 fn maps(rt: &HostRuntime) -> Result<bool, Error> {
-    let alloc = rt.alloc();
     let mut all = numbered(rt, [3, 1, 2]);
-    let index = all.lookup(alloc)?;
-    let found = is(
-        rt,
-        "lookup",
-        &index.get(&Value::Ubyte(2)),
-        &Some(&Value::Null),
-    ) & is(rt, "no such key", &index.get(&Value::Ubyte(4)), &None)
-        & is(
-            rt,
-            "first",
-            &all.first(),
-            &Some((&Value::Ubyte(3), &Value::Null)),
-        )
-        & is(
-            rt,
-            "last",
-            &all.last(),
-            &Some((&Value::Ubyte(2), &Value::Null)),
-        )
-        & is(rt, "keys", &all.keys().count(), &3)
-        & is(rt, "contains", &all.contains_key(&Value::Ubyte(1)), &true);
+    let found = are_found(rt, &all)?;
     for value in all.values_mut() {
         *value = Value::Bool(true);
     }
@@ -50,7 +82,7 @@ fn maps(rt: &HostRuntime) -> Result<bool, Error> {
         (Value::Ubyte(2), Value::Null),
         (Value::Ubyte(5), Value::Null),
     ];
-    all.extend(Vec::from_array(alloc, more)?.into_iter())?;
+    all.extend(Vec::from_array(rt.alloc(), more)?.into_iter())?;
     let expected = ordered_map(
         rt,
         [
@@ -59,14 +91,7 @@ fn maps(rt: &HostRuntime) -> Result<bool, Error> {
             (Value::Ubyte(5), Value::Null),
         ],
     );
-    let mut names = OrderedMap::new(alloc);
-    drop(names.insert(Symbol::try_from_str(alloc, "a")?, 1u8)?);
-    Ok(
-        found
-            & is(rt, "changed map", &all, &expected)
-            & is(rt, "get_str", &names.get_str("a"), &Some(&1))
-            & is(rt, "get_str of another", &names.get_str("b"), &None),
-    )
+    Ok(found & names(rt)? & is(rt, "changed map", &all, &expected))
 }
 
 fn uuids(rt: &HostRuntime) -> bool {
