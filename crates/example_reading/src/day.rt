@@ -19,7 +19,7 @@ pub struct Day {
 }
 
 /// The amount and duration of a rainfall: a list described by the symbol `station:rain:list`.
-// amqp: encoding = "list", name = "station:rain:list", full
+// amqp: encoding = "list", name = "station:rain:list"
 #[derive(Debug, PartialEq, Drop)]
 pub struct Rain {
     /// The amount, in tenths of a millimetre.
@@ -132,11 +132,11 @@ impl RoundTrip for Day {
 
 impl Serialize for Rain {
     ghost use Rattle.std.specs.Prelude.{[], ◌∷◌, codes};
-    ghost use Rattle.serde_amqp.specs.Derive.{name, list_composite, of_u16, of_u32};
+    ghost use Rattle.serde_amqp.specs.Derive.{name, short_composite, required_value, of_u16, of_u32};
 
-    ghost tree = { λ x. list_composite (name (codes "station:rain:list")) (
-        of_u32 x.amount
-        ∷ of_u16 x.time
+    ghost tree = { λ x. short_composite (name (codes "station:rain:list")) (
+        required_value (of_u32 x.amount)
+        ∷ required_value (of_u16 x.time)
         ∷ []) };
 
     fn serialize<S: Serializer>(&self, serializer: &mut S) -> Result<S::Ok, S::Error> {
@@ -170,7 +170,7 @@ impl Deserialize for Rain {
         ReadsRequired (codes "time") ⟦<u16 as Deserialize>⟧.reads x.time
         NoMoreFields))) t };
 
-    ghost image = { λ x. described (name (codes "station:rain:list")) (⟦<ListSeed<RainFields> as DeserializeSeed>⟧.image (⟦<Rain as Record>⟧.parts x)) };
+    ghost image = { λ x. described (name (codes "station:rain:list")) (⟦<ListSeed<RainFields> as DeserializeSeed>⟧.short (⟦<Rain as Record>⟧.parts x)) };
 
     ghost restorable = { λ x. ⟦<ListSeed<RainFields> as DeserializeSeed>⟧.restorable (⟦<Rain as Record>⟧.parts x) };
 
@@ -214,7 +214,7 @@ impl Deserialize for Rain {
 
 impl RoundTrip for Rain {
     fn law() {
-        laws::all_fields_return::<Rain, RainFields>();
+        laws::short_fields_return::<Rain, RainFields>();
         laws::described_return();
     }
 }
