@@ -243,7 +243,11 @@ def check(t):
         raise Wrong(line, f"{n} has two variants of one type")
     if "map_key" in t.flags and t.encoding != "scalar" and not t.transparent:
         raise Wrong(line, 'map_key is for encoding = "scalar", and for "basic" without a descriptor')
+    if t.reads and t.encoding == "list" and t.symbol and not t.code and "full" in t.flags:
+        raise Wrong(line, f"{n}: `full` is for a list with a code, or without a descriptor")
     for f in t.fields + [f for v in t.variants for f in v.fields]:
+        if float_ := re.search(r"\bf(32|64)\b", f.type):
+            raise Wrong(line, f"{n}: the type of a float is F{float_.group(1)}Bits, not f{float_.group(1)}")
         if t.round_trips and any(re.search(rf"\b{name}\b", f.type) for name in NO_ROUND_TRIP):
             raise Wrong(line, f"{n}: {f.type} does not round-trip: add no_round_trip")
 
@@ -278,4 +282,9 @@ def types_of(text):
             t.fields = fields_of(t, body, t.is_tuple)
         check(t)
         found.append(t)
+    of_file = {t.name: t for t in found}
+    for t in found:
+        for v in t.variants if t.encoding == "described" else []:
+            if v.type in of_file and not of_file[v.type].composite:
+                raise Wrong(of_file[v.type].line, f"{v.type} is a variant of {t.name}: it needs a code and a name")
     return found
