@@ -71,6 +71,8 @@ class Libraries:
         self.modules = {}
         for crate in self.crates:
             self.read(crate, ())
+        # A macro that is exported is in the root of its crate, whatever module has it.
+        self.macros = {(it.crate, item.name): (it, item) for it in self.modules.values() for item in it.items if item.kind == "macro_rules!"}
 
     def below(self, name, uses):
         return {low for it in uses[name] if it in uses for low in {it} | self.below(it, uses)}
@@ -89,7 +91,7 @@ class Libraries:
             return self.modules[module.crate, (*module.path, name)]
         if name in module.uses and module.uses[name] != [name]:
             return self.resolve(module, module.uses[name])
-        return None
+        return None if module.path else self.macros.get((module.crate, name))
 
     def resolve(self, module, names):
         """Returns what a path means in a module: a module, a pair of a module and an item, or None."""
