@@ -3,8 +3,8 @@
 //! Each contains a reference to the serializer and the serializer's open compound. If serializing
 //! an element, key, value or field fails, the compound is unchanged and keeps accepting parts.
 
-mod any_field;
-mod body;
+pub(crate) mod any_field;
+pub(crate) mod body;
 pub(crate) mod described;
 pub(crate) mod feed;
 mod list_field;

@@ -4,6 +4,10 @@
 //! data tree into its length, its bytes or an untyped value. There is one law: the result of
 //! serializing a value is the serializer's result for the tree of the value. This crate defines the
 //! traits, the compounds and the trees of Rust's own types. It does not write bytes.
+//!
+//! A serializer that declares compounds of its own, which are not generic, builds them from
+//! `feed_part`, `feed_entry`, `feed_descriptor`, `feed_single`, `feed_any`, `open_body` and
+//! `end_fields`: each is one step of a compound, for any serializer and its open compound.
 #![tactic(auto)]
 
 mod calls;
@@ -27,6 +31,10 @@ mod whole;
 pub use calls::compounds::SerializeCompounds;
 pub use calls::scalars::SerializeScalars;
 pub use composite::{ListOf, MapOf, SymbolMapOf, VariantOf};
+pub use compound::any_field::feed_any;
+pub use compound::body::{end_fields, open_body};
+pub use compound::described::{feed_descriptor, feed_single};
+pub use compound::feed::{feed_entry, feed_part};
 pub use compound::{
     Compound, SerializeMap, SerializeSeq, SerializeStruct, SerializeStructVariant, SerializeTuple,
     SerializeTupleStruct, SerializeTupleVariant,
@@ -37,6 +45,7 @@ pub use header::Header;
 pub use kind::CompoundKind;
 pub use marker::{Marker, marker_named};
 pub use name::Name;
+pub use names::is_descriptor_name;
 pub use optional_field::OptionalField;
 pub use serialize::Serialize;
 pub use serializer::Serializer;
