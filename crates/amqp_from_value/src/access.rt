@@ -6,7 +6,7 @@ ghost use Rattle.amqp_value.specs.TreeOf.{tree_of};
 
 use crate::deserializer::{Deserializer, Elements, Entries};
 use amqp_data::{Error, OrderedMap};
-use amqp_de::{ContentOf, de};
+use amqp_de::{DeserializeSeed, de};
 use amqp_value::Value;
 use std::alloc::Global;
 
@@ -100,5 +100,67 @@ impl de::MapAccess for MapAccess {
     }
 }
 
-/// An accessor of the content of a variant, read with the methods of `amqp_de::de::VariantAccess`.
-pub type VariantAccess = ContentOf<Deserializer>;
+/// An accessor of a variant in a list: the index, and then the value. Its value is read with the
+/// methods of `amqp_de::de::VariantAccess`. Further elements are ignored.
+#[derive(Drop)]
+pub struct VariantAccess {
+    elements: Elements,
+}
+
+impl VariantAccess {
+    ghost use Rattle.amqp_from_value.specs.Access.{PicksNext, RestoresPickedNext, variant_left};
+
+    /// Returns an accessor of the variant in these elements.
+    ///
+    /// # Memory
+    /// None.
+    pub fn new(alloc: Global, values: Vec<Value>) -> VariantAccess
+        ensures { variant_left result ≡ map tree_of values.items }
+    {
+        VariantAccess {
+            elements: Elements::new(alloc, values),
+        }
+    }
+
+    /// Reads the index with a seed, and returns it with the accessor of the value.
+    ///
+    /// # Errors
+    /// Returns the message `Expecting a Value` if there is no element; otherwise the seed's error,
+    /// which is out of memory or means that the index cannot be read.
+    ///
+    /// # Example
+    /// For the uint 1 and the ulong 13, with `TypeSeed(PhantomData::<u32>)`, returns 1 and the
+    /// accessor of 13.
+    pub fn variant_seed<S: DeserializeSeed>(
+        self,
+        alloc: Global,
+        seed: S,
+    ) -> Result<(S::Value, VariantAccess), Error>
+        ensures read { PicksNext (S.reads seed) (variant_left self) result }
+        ensures law { RestoresPickedNext S.image S.restorable S.same (variant_left self) result }
+    {
+        let VariantAccess { mut elements } = self;
+        match <Deserializer as de::Deserializer>::next_element(&mut elements) {
+            Some(item) => match seed.deserialize(alloc, item) {
+                Ok(index) => Ok((index, VariantAccess { elements })),
+                Err(error) => Err(error),
+            },
+            None => Err(Error::Message("Expecting a Value")),
+        }
+    }
+}
+
+impl de::VariantAccess for VariantAccess {
+    ghost use Rattle.amqp_from_value.specs.Access.{variant_content};
+
+    type Error = Error;
+
+    type Item = Deserializer;
+
+    ghost content = { variant_content };
+
+    fn into_item(self) -> Option<Deserializer> {
+        let VariantAccess { mut elements } = self;
+        <Deserializer as de::Deserializer>::next_element(&mut elements)
+    }
+}

@@ -68,6 +68,7 @@
 //! | the same | `VariantAccess::newtype_variant_seed`, `Deserialize::deserialize` |
 //! | the same | `DeserializeCompounds::deserialize_written`, `DeserializeCompounds::deserialize_marked` |
 //! | the same | `DeserializeCompounds::deserialize_newtype_struct` |
+//! | none, since they are `SeqAccess::new` and `SeqAccess::next_element_seed` with another result | `VariantAccess::new`, `VariantAccess::variant_seed` |
 //! | a run over lines, over frames | `run_lines`, `run_cut`, `VecWriter::new`, `Write::put` |
 #![tactic(auto)]
 

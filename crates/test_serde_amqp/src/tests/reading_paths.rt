@@ -57,7 +57,6 @@ fn parts_are_read_by_accessors(rt: &HostRuntime) -> Result<bool, Error> {
     let entry: Option<(u32, u32)> = entries.next_entry(a)?;
     let access = de::EnumAccessOf::<value::de::Deserializer>::new(uint(a), Some(uint(a)));
     let (index, content) = access.variant::<u32>(a)?;
-    let content: value::de::VariantAccess = content;
     let content: de::ContentOf<value::de::Deserializer> = content;
     let content = content.newtype_variant::<u32>(a)?;
     Ok(

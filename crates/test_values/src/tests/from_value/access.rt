@@ -3,11 +3,12 @@
 use super::super::rows::{fails, gives, is};
 use super::super::values::{ordered_map, string, vec_of};
 use amqp_data::Error;
-use amqp_de::EnumAccessOf;
-use amqp_de::de::{self, Deserialize, EnumAccess as _, VariantAccess as _};
-use amqp_from_value::{Deserializer, MapAccess, SeqAccess, VariantAccess};
+use amqp_de::TypeSeed;
+use amqp_de::de::{self, Deserialize, VariantAccess as _};
+use amqp_from_value::{MapAccess, SeqAccess, VariantAccess};
 use amqp_value::Value;
 use std::fmt::Debug;
+use std::marker::PhantomData;
 
 fn entries<const N: usize>(rt: &HostRuntime, pairs: [(Value, Value); N]) -> MapAccess {
     MapAccess::new(rt.alloc(), ordered_map(rt, pairs))
@@ -135,14 +136,14 @@ fn a_refused_entry_is_taken_whole(rt: &HostRuntime) -> bool {
         )
 }
 
-// Returns the content of the variant with index 1.
+// Returns the accessor of the value of the variant with index 1.
 fn variant_1(rt: &HostRuntime, item: Option<Value>) -> Result<VariantAccess, Error> {
-    let item = match item {
-        Some(value) => Some(Deserializer::new(rt.alloc(), value)),
-        None => None,
-    };
-    let index = Deserializer::new(rt.alloc(), Value::Uint(1));
-    let (_index, content) = EnumAccessOf::new(index, item).variant::<u32>(rt.alloc())?;
+    let mut values = vec![in rt.alloc(); Value::Uint(1)]?;
+    if let Some(value) = item {
+        values.push(value)?;
+    }
+    let access = VariantAccess::new(rt.alloc(), values);
+    let (_index, content) = access.variant_seed(rt.alloc(), TypeSeed(PhantomData::<u32>))?;
     Ok(content)
 }
 
@@ -150,12 +151,21 @@ fn newtype(rt: &HostRuntime, item: Option<Value>) -> Result<u64, Error> {
     variant_1(rt, item)?.newtype_variant(rt.alloc())
 }
 
+// Reads the index of a variant without elements.
+fn without_elements(rt: &HostRuntime) -> Result<u32, Error> {
+    let access = VariantAccess::new(rt.alloc(), Vec::new(rt.alloc()));
+    let (index, _content) = access.variant_seed(rt.alloc(), TypeSeed(PhantomData::<u32>))?;
+    Ok(index)
+}
+
 fn a_variant_tells_what_it_misses(rt: &HostRuntime) -> Result<bool, Error> {
     let missing = Error::Message("Expecting a value");
+    let empty = Error::Message("Expecting a Value");
     let some = newtype(rt, Some(Value::Ulong(13)));
     let unit = variant_1(rt, Some(Value::Ulong(13)))?.unit_variant();
     Ok(
         fails(rt, "no content", &newtype(rt, None), &missing)
+            && fails(rt, "no index", &without_elements(rt), &empty)
             && gives(rt, "a newtype variant", &some, &13)
             && gives(rt, "a unit variant", &unit, &()),
     )
