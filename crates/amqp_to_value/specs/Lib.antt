@@ -8,3 +8,5 @@ pub mod ImageOf
 pub mod PendingMarker
 pub mod HeldImages
 pub mod ValueSerializer
+pub mod OpenCompounds
+pub mod OpenStructs

@@ -9,6 +9,7 @@
 //! and the bytes of a lazy value can be longer than the encoding of the value that they spell.
 #![tactic(auto)]
 
+mod compounds;
 mod image;
 pub mod laws;
 mod lazy;
@@ -21,8 +22,9 @@ mod pending_marker;
 mod scalars;
 mod serializer;
 
-pub use image::{TryFromSerializable, to_value};
-pub use serializer::{
-    MapSerializer, SeqSerializer, Serializer, StructSerializer, StructVariantSerializer,
-    TupleSerializer, TupleStructSerializer, VariantSerializer,
+pub use compounds::{
+    MapSerializer, SeqSerializer, StructSerializer, StructSerializerKind, StructVariantSerializer,
+    TupleSerializer, TupleStructSerializer, TupleStructSerializerKind, VariantSerializer,
 };
+pub use image::{TryFromSerializable, to_value};
+pub use serializer::Serializer;

@@ -14,10 +14,7 @@ use crate::pending_descriptors::PendingDescriptors;
 use crate::pending_marker::PendingMarker;
 use crate::scalars::{descriptor_from, marked_bytes, marked_fixed, marked_text};
 use amqp_data::Error;
-use amqp_ser::{
-    CompoundKind, Fixed, Marker, SerializeMap, SerializeSeq, SerializeStruct,
-    SerializeStructVariant, SerializeTuple, SerializeTupleStruct, SerializeTupleVariant,
-};
+use amqp_ser::{CompoundKind, Fixed, Marker};
 use amqp_value::Value;
 use std::alloc::Global;
 use std::mem;
@@ -37,27 +34,6 @@ pub struct Serializer {
     descriptors: PendingDescriptors,
     capacity: NextCapacity,
 }
-
-/// A list that is being serialized.
-pub type SeqSerializer<'a> = SerializeSeq<'a, Serializer>;
-
-/// A tuple that is being serialized.
-pub type TupleSerializer<'a> = SerializeTuple<'a, Serializer>;
-
-/// A map that is being serialized.
-pub type MapSerializer<'a> = SerializeMap<'a, Serializer>;
-
-/// A tuple struct that is being serialized.
-pub type TupleStructSerializer<'a> = SerializeTupleStruct<'a, Serializer>;
-
-/// A struct that is being serialized.
-pub type StructSerializer<'a> = SerializeStruct<'a, Serializer>;
-
-/// A tuple variant that is being serialized.
-pub type VariantSerializer<'a> = SerializeTupleVariant<'a, Serializer>;
-
-/// A struct variant that is being serialized.
-pub type StructVariantSerializer<'a> = SerializeStructVariant<'a, Serializer>;
 
 impl Serializer {
     /// Returns a serializer with no pending marker or descriptor.

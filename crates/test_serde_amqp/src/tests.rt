@@ -15,3 +15,4 @@ mod record_paths;
 mod rows;
 mod runs;
 mod streams;
+mod value_compounds;

@@ -1,6 +1,7 @@
 //! Serializer that builds an untyped value.
 
 pub use amqp_to_value::{
-    MapSerializer, SeqSerializer, Serializer, StructSerializer, StructVariantSerializer,
-    TupleSerializer, TupleStructSerializer, VariantSerializer,
+    MapSerializer, SeqSerializer, Serializer, StructSerializer, StructSerializerKind,
+    StructVariantSerializer, TupleSerializer, TupleStructSerializer, TupleStructSerializerKind,
+    VariantSerializer,
 };

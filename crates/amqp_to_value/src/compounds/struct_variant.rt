@@ -1,0 +1,133 @@
+//! Struct variants of the value serializer: an index and the list of the fields.
+
+ghost use Rattle.std.specs.Prelude.{ℕ, ◌≡◌, [], List, Option};
+ghost use Rattle.std.specs.Borrow.{sem};
+ghost use Rattle.amqp_ser.specs.Tree.{Tree};
+ghost use Rattle.amqp_ser.specs.Compounds.{tree_of_parts};
+ghost use Rattle.amqp_ser.specs.declared.kind.CompoundKind.TheVariants as kind;
+ghost use Rattle.amqp_to_value.specs.ValueSerializer.{ValuePermits};
+ghost use Rattle.amqp_to_value.specs.OpenCompounds.{FeedsStructVariant, StructVariantHas, lends_of_struct_variant, struct_variant_reference};
+
+use crate::open_value::OpenValue;
+use crate::serializer::Serializer;
+use amqp_data::Error;
+use amqp_ser::{Compound, CompoundKind, Serialize, Serializer as _, feed_part};
+use amqp_value::Value;
+use std::fmt;
+use std::fmt::{Debug, Formatter, Write};
+
+/// A struct variant that is being serialized to a value.
+///
+/// # Encoding
+/// The map of one pair, from the index as a uint to the list of the fields (AMQP 1.0 part 1,
+/// section 1.6.23).
+///
+/// # Example
+/// The index 1, `true` and the ubyte 1 give the map from the uint 1 to the list of the two.
+pub struct StructVariantSerializer<'a, H: Drop = OpenValue> {
+    serializer: &'a mut Serializer,
+    compound: H,
+}
+
+impl<H: Drop> Drop for StructVariantSerializer<'_, H> {
+    #[inline(always)]
+    fn drop(self)
+        ensures { self.exit.0.now ≡ self.entry.serializer.now }
+    {
+        let StructVariantSerializer {
+            serializer: _,
+            compound: _,
+        } = self;
+    }
+}
+
+impl<'a> StructVariantSerializer<'a> {
+    /// Begins a variant of this index in a serializer, as `serialize_struct_variant` does.
+    ///
+    /// # Memory
+    /// None.
+    ///
+    /// # Example
+    /// Without fields, the index 1 gives the map from the uint 1 to the empty list.
+    #[inline(always)]
+    pub fn new(serializer: &'a mut Serializer, index: u32) -> StructVariantSerializer<'a>
+        ensures opened { StructVariantHas serializer.old index result [] }
+        ensures same_reference { (struct_variant_reference result).ghost_name
+            ≡ serializer.entry.ghost_name }
+    {
+        let compound = serializer.begin_compound(CompoundKind::Variant(index));
+        StructVariantSerializer {
+            serializer,
+            compound,
+        }
+    }
+
+    /// Returns the serializer of the variant. The variant continues with the state that the caller
+    /// leaves in it; the rest of the variant is unchanged.
+    #[inline(always)]
+    pub fn as_mut(&mut self) -> &mut Serializer
+        ensures* writes_back { sem 𝓛 (lends_of_struct_variant self.entry result) }
+        ensures now { result.now ≡ (struct_variant_reference self.old).now }
+    {
+        &mut *self.serializer
+    }
+
+    /// Serializes one more field.
+    ///
+    /// # Errors
+    /// Returns the error of the field. The variant is then unchanged and keeps accepting fields.
+    ///
+    /// # Memory
+    /// Allocates from the allocator of the serializer.
+    ///
+    /// # Example
+    /// After `true` and the ubyte 1, the variant has two fields.
+    #[inline(always)]
+    pub fn serialize_field<T: Serialize>(
+        &mut self,
+        _key: &'static str,
+        value: &T,
+    ) -> Result<(), Error>
+        ensures same { (struct_variant_reference self.new).ghost_name
+            ≡ (struct_variant_reference self.old).ghost_name }
+        ensures step { FeedsStructVariant (T.tree value.now) self.old result self.new }
+    {
+        feed_part(&mut *self.serializer, &mut self.compound, value)
+    }
+
+    /// Ends the variant and returns its value: the image of its tree.
+    ///
+    /// # Errors
+    /// Returns `Error::OutOfMemory` if an allocation fails, and `Error::InvalidValue` if the
+    /// pending marker does not accept a variant.
+    ///
+    /// # Memory
+    /// Allocates from the allocator of the serializer.
+    ///
+    /// # Example
+    /// The index 1 without fields: the map from the uint 1 to the empty list.
+    #[inline(always)]
+    pub fn end(self) -> Result<Value, Error>
+        ensures { (start : Serializer) (i : ℕ) (ps : List (Option Tree)) → StructVariantHas start i self.entry ps →
+            ValuePermits start (tree_of_parts (kind.Variant i) ps) result self.exit.0.now }
+    {
+        let StructVariantSerializer {
+            serializer,
+            compound,
+        } = self;
+        serializer.end(compound)
+    }
+}
+
+impl Compound for StructVariantSerializer<'_> {
+    type Ok = Value;
+
+    type Error = Error;
+}
+
+/// Writes the name of the type.
+impl Debug for StructVariantSerializer<'_> {
+    fn fmt<W: Write>(&self, f: &mut Formatter<W>) -> fmt::Result {
+        f.write_str("StructVariantSerializer")
+    }
+}
