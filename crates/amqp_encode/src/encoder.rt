@@ -59,12 +59,7 @@ impl Encoder {
             (λ e. AreBytesOf (T.tree value.now) (Err e)) }
     {
         self.bytes.clear();
-        append(
-            self.alloc,
-            &mut self.headers,
-            &mut self.bytes,
-            value,
-        )?;
+        append(self.alloc, &mut self.headers, &mut self.bytes, value)?;
         Ok(self.bytes.as_slice())
     }
 }
