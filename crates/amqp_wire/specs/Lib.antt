@@ -1,6 +1,7 @@
--- Definitions that the contracts of the public items `to_vec` and `to_lazy_value` use, besides
--- those of `amqp_ser`.
+-- Definitions that the contracts of the public items `to_vec`, `append` and `to_lazy_value` use,
+-- besides those of `amqp_ser`.
 pub mod ResultBytes
+pub mod Appended
 pub mod LazyOf
 -- Definitions that only private clauses use: the law of the two passes.
 pub mod TreeHeaders

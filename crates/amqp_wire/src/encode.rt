@@ -46,7 +46,10 @@ pub fn to_vec<T: Serialize>(alloc: Global, value: &T) -> Result<Vec<u8>, Error>
 
 // Returns `OutOfMemory` if the table ever failed to grow; otherwise the result of the first pass.
 #[inline(always)]
-fn unless_refused(measurer: &Measurer, answer: Result<usize, SizeError>) -> Result<usize, SizeError>
+pub(crate) fn unless_refused(
+    measurer: &Measurer,
+    answer: Result<usize, SizeError>,
+) -> Result<usize, SizeError>
     ensures marked { measurer.now.table.refused ≡ true → result ≡ Err SizeError.OutOfMemory }
     ensures unmarked { measurer.now.table.refused ≡ false → result ≡ answer }
 {

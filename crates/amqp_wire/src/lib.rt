@@ -6,6 +6,7 @@
 //! value is writable, and returns the encoding of the tree.
 #![tactic(auto)]
 
+mod appending;
 mod encode;
 mod lazy_value;
 mod measurer;
@@ -20,5 +21,6 @@ mod tests;
 mod writer;
 mod writer_compound;
 
+pub use appending::append;
 pub use encode::to_vec;
 pub use lazy_value::to_lazy_value;

@@ -62,6 +62,19 @@ impl Measurer {
         }
     }
 
+    /// Creates a measurer at the root, with these headers, whose capacity is used.
+    #[inline(always)]
+    pub fn with_headers(headers: Vec<Header>) -> Measurer
+        ensures headers { result.table.headers ≡ headers }
+        ensures refused { result.table.refused ≡ false }
+        ensures context { result.size.context ≡ Plain Root }
+    {
+        Measurer {
+            size: SizeSerializer::new(),
+            table: Table::with_headers(headers),
+        }
+    }
+
     /// Returns whether an allocation has ever failed.
     #[inline(always)]
     pub fn is_refused(&self) -> bool

@@ -59,6 +59,19 @@ impl Output {
         out
     }
 
+    /// Returns the table and the bytes.
+    #[inline(always)]
+    pub fn into_parts(self) -> (Vec<Header>, Vec<u8>)
+        ensures { result ≡ (self.table, self.out) }
+    {
+        let Output {
+            table,
+            taken: _,
+            out,
+        } = self;
+        (table, out)
+    }
+
     /// Returns the current position.
     #[inline(always)]
     pub fn checkpoint(&self) -> Checkpoint

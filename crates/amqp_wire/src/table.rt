@@ -37,8 +37,17 @@ impl Table {
         ensures empty { result.headers.items ≡ [] }
         ensures refused { result.refused ≡ false }
     {
+        Table::with_headers(Vec::new(alloc))
+    }
+
+    /// Creates a table of headers, whose capacity is used.
+    #[inline(always)]
+    pub fn with_headers(headers: Vec<Header>) -> Table
+        ensures headers { result.headers ≡ headers }
+        ensures refused { result.refused ≡ false }
+    {
         Table {
-            headers: Vec::new(alloc),
+            headers,
             refused: false,
         }
     }

@@ -81,6 +81,19 @@ impl Writer {
         output.into_bytes()
     }
 
+    /// Returns the table, and the bytes as `into_bytes` does.
+    #[inline(always)]
+    pub fn into_parts(self) -> (Vec<Header>, Vec<u8>)
+        ensures { result ≡ (self.output.table, self.output.out) }
+    {
+        let Writer {
+            context: _,
+            tries_parts: _,
+            output,
+        } = self;
+        output.into_parts()
+    }
+
     /// Returns whether the table and the capacity sufficed.
     #[inline(always)]
     pub fn is_whole(&self) -> bool
