@@ -7,6 +7,7 @@ pub mod LeftOut
 pub mod Leaves
 pub mod Fillings
 pub mod Readings
+pub mod MapReadings
 pub mod Chunks
 pub mod FieldLemmas
 pub mod OtherCodes

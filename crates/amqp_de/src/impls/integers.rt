@@ -8,6 +8,7 @@ use crate::deserialize::Deserialize;
 use crate::deserialize_error::DeserializeError;
 use crate::deserializer::Deserializer;
 use crate::fixed_content::FixedContent;
+use crate::impls::encoded_maps::keys_differ;
 use crate::impls::numbers::read_numbers;
 use amqp_decode::prefix::{
     GaveUp, read_byte, read_int, read_long, read_short, read_ubyte, read_uint, read_ulong,
@@ -133,6 +134,10 @@ impl Deserialize for u32 {
         let items = read_numbers::<u32, 4>(alloc, count, content)?;
         Ok(items)
     }
+
+    fn have_distinct_trees<V>(alloc: Global, entries: &[(u32, V)]) -> bool {
+        keys_differ(alloc, entries)
+    }
 }
 
 impl Deserialize for u64 {
@@ -177,6 +182,10 @@ impl Deserialize for u64 {
         }
         let items = read_numbers::<u64, 8>(alloc, count, content)?;
         Ok(items)
+    }
+
+    fn have_distinct_trees<V>(alloc: Global, entries: &[(u64, V)]) -> bool {
+        keys_differ(alloc, entries)
     }
 }
 
@@ -298,6 +307,10 @@ impl Deserialize for i32 {
         let items = read_numbers::<i32, 4>(alloc, count, content)?;
         Ok(items)
     }
+
+    fn have_distinct_trees<V>(alloc: Global, entries: &[(i32, V)]) -> bool {
+        keys_differ(alloc, entries)
+    }
 }
 
 impl Deserialize for i64 {
@@ -342,5 +355,9 @@ impl Deserialize for i64 {
         }
         let items = read_numbers::<i64, 8>(alloc, count, content)?;
         Ok(items)
+    }
+
+    fn have_distinct_trees<V>(alloc: Global, entries: &[(i64, V)]) -> bool {
+        keys_differ(alloc, entries)
     }
 }
