@@ -17,3 +17,4 @@ pub mod NotArray
 pub mod MultipleReadings
 pub mod DefaultedReadings
 pub mod CompositeReadings
+pub mod DescriptorReadings
