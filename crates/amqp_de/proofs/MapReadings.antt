@@ -2,7 +2,11 @@
 use Rattle.std.proofs.Common.{◌≡◌, ℕ, suc, ◌+◌, ◌-◌, ◌<◌, ◌≤◌, Bool, true, false, true≢false, if◌then◌else◌, List, [], ◌∷◌, ◌++◌, length, position, map, Some, None, refl, sym, ap, ◌∙◌, subst, arith}
 use Rattle.std.specs.Bool.{OnTrue}
 use Rattle.std.specs.List.{AllZip, AllByRecursion}
+use Rattle.std.specs.Cmp.{IsTotalOrder}
 use Rattle.std.specs.Map.{keys_of}
+use Rattle.std.specs.Ordering.{is_eq}
+use Rattle.std.specs.declared.cmp.Ordering.{Ordering}
+use Rattle.std.specs.declared.cmp.Ordering.TheVariants.{Less}
 use Rattle.amqp_data.specs.Pairs.{insert_pair, LacksKey, AreDistinct}
 use Rattle.amqp_data.proofs.Searches.{AllFail, fail_by_position}
 use Rattle.amqp_ser.specs.Same.{same_tree}
@@ -19,7 +23,7 @@ use Rattle.amqp_decode.proofs.Levels.{parse_frame}
 use Rattle.amqp_decode.proofs.Steps.{insert-and_then}
 use Rattle.amqp_decode.proofs.Whole.{nil-from_length}
 use Rattle.amqp_de.specs.Encoded.{Reading, ReadsPrefix}
-use Rattle.amqp_de.specs.EncodedMaps.{AreApart, FillsPairs}
+use Rattle.amqp_de.specs.EncodedMaps.{AreApart, Climbs, FillsPairs, IsBelow}
 use Rattle.amqp_de.specs.Maps.{OnMap, ReadsPair, ReadsPairs, pair_image, IsPair, SamePair, EachBefore}
 use Rattle.amqp_de.proofs.Inserted.{distinct_inserted}
 use Rattle.amqp_de.proofs.Lists.{entries_in_pairs, same_pairs}
@@ -184,3 +188,21 @@ module _ {T A : Type 0} (kind : A → Scalar) (told : (a b : A) → kind a ≡ k
 pub on_true : (b : Bool) (P : Type 0) → b ≡ true → OnTrue b P → P
 on_true true P is p = p
 on_true false P is p = absurd (true≢false (sym is))
+
+-- Keys of which each is below the next one are distinct.
+module _ {K V : Type 0} (eq : K → K → Bool) (cmp : K → K → Ordering) (total : IsTotalOrder cmp) (ties : (x y : K) → eq x y ≡ is_eq (cmp x y)) where
+  below_others : (k l : K) (es : List (K × V)) → cmp k l ≡ Less → AllByRecursion (λ (e : K × V). cmp l e.0 ≡ Less) es → AllByRecursion (λ (e : K × V). cmp k e.0 ≡ Less) es
+  below_others k l [] less all = tt
+  below_others k l (e ∷ es) less all = (total.trans k l e.0 less all.0, below_others k l es less all.1)
+
+  below_all : (e : K × V) (es : List (K × V)) → IsBelow cmp e es → Climbs cmp es → AllByRecursion (λ (f : K × V). cmp e.0 f.0 ≡ Less) es
+  below_all e [] below climbs = tt
+  below_all e (f ∷ es) below climbs = (below, below_others e.0 f.0 es below (below_all f es climbs.0 climbs.1))
+
+  below_lacks : (k : K) (es : List (K × V)) → AllByRecursion (λ (e : K × V). cmp k e.0 ≡ Less) es → LacksKey eq k (keys_of es)
+  below_lacks k [] all = tt
+  below_lacks k (e ∷ es) all = (ties k e.0 ∙ ap is_eq all.0, below_lacks k es all.1)
+
+  pub climbs_distinct : (es : List (K × V)) → Climbs cmp es → AreDistinct eq (keys_of es)
+  climbs_distinct [] climbs = tt
+  climbs_distinct (e ∷ es) climbs = (below_lacks e.0 es (below_all e es climbs.0 climbs.1), climbs_distinct es climbs.1)

@@ -1,6 +1,8 @@
 -- What is read from the encoded keys and values of a map (AMQP 1.0 part 1, section 1.6.23).
-use Rattle.std.specs.Prelude.{◌≡◌, ℕ, suc, false, List, [], Some}
+use Rattle.std.specs.Prelude.{◌≡◌, ℕ, suc, false, List, [], ◌∷◌, Some}
 use Rattle.std.specs.List.{AllZip}
+use Rattle.std.specs.declared.cmp.Ordering.{Ordering}
+use Rattle.std.specs.declared.cmp.Ordering.TheVariants.{Less}
 use Rattle.amqp_ser.specs.Same.{same_tree}
 use Rattle.amqp_ser.specs.Tree.{Tree, no_pairs}
 use Rattle.amqp_value.specs.Converts.{inserted_in_order}
@@ -23,3 +25,13 @@ ReadsEntry R Q depth bytes rest p = (mid : List ℕ) × ReadsPrefix R depth byte
 abbrev pub FillsPairs : {K V : Type 0} → (Tree × Tree → K × V → Type 0) → FrameReader → ℕ → List ℕ → List (K × V) → Type 0
 FillsPairs R form count bytes ps =
     (ts : List (Tree × Tree)) × (insert form count bytes no_pairs ≡ Some (pairs_of (inserted_in_order same_tree ts), [])) × AllZip R ts ps
+
+-- The key is below the first key of the entries, if there is one.
+abbrev pub IsBelow : {K V : Type 0} → (K → K → Ordering) → K × V → List (K × V) → Type 0
+IsBelow cmp e [] = Unit {0}
+IsBelow cmp e (f ∷ fs) = cmp e.0 f.0 ≡ Less
+
+-- Each key is below the next one.
+abbrev pub Climbs : {K V : Type 0} → (K → K → Ordering) → List (K × V) → Type 0
+Climbs cmp [] = Unit {0}
+Climbs cmp (e ∷ es) = IsBelow cmp e es × Climbs cmp es

@@ -8,7 +8,7 @@ ghost use Rattle.amqp_data.specs.Pairs.{AreDistinct};
 ghost use Rattle.amqp_decode.specs.Parsed.{parse};
 ghost use Rattle.amqp_ser.specs.Tree.{Tree};
 ghost use Rattle.amqp_de.specs.Encoded.{Reading};
-ghost use Rattle.amqp_de.specs.EncodedMaps.{AreApart, FillsPairs, ReadsEntry};
+ghost use Rattle.amqp_de.specs.EncodedMaps.{AreApart, Climbs, FillsPairs, IsBelow, ReadsEntry};
 ghost use Rattle.amqp_de.specs.Maps.{ReadsPair};
 
 use crate::deserialize::Deserialize;
@@ -16,6 +16,7 @@ use crate::room::push_item;
 use amqp_data::finds_distinct_keys;
 use amqp_decode::prefix::{GaveUp, split_byte};
 use std::alloc::Global;
+use std::cmp::Ordering;
 use std::hash::Hash;
 
 /// The maximum number of entries of which each key is compared with all others.
@@ -98,6 +99,49 @@ pub(crate) fn keys_differ<K: Hash + Eq, V>(alloc: Global, entries: &[(K, V)]) ->
         few_keys_differ(entries)
     } else {
         finds_distinct_keys(alloc, entries)
+    }
+}
+
+/// Like `keys_differ`, but allocates nothing if the keys ascend.
+pub(crate) fn ordered_keys_differ<K: Hash + Ord, V>(alloc: Global, entries: &[(K, V)]) -> bool
+    ensures { OnTrue result (AreDistinct K.eq (keys_of entries.now)) }
+{
+    if keys_ascend(entries) {
+        true
+    } else {
+        keys_differ(alloc, entries)
+    }
+}
+
+// Returns whether each key is below the next one.
+fn keys_ascend<K: Ord, V>(entries: &[(K, V)]) -> bool
+    ensures { OnTrue result (Climbs K.cmp entries.now) }
+{
+    let mut rest = entries;
+    'keys: loop {
+        match rest.split_first() {
+            Some((first, others)) => {
+                if !is_below(first, others) {
+                    return false;
+                }
+                rest = others;
+            }
+            None => return true,
+        }
+    }
+}
+
+// Returns whether the key is below the first key of the entries, if there is one.
+#[inline(always)]
+fn is_below<K: Ord, V>(entry: &(K, V), entries: &[(K, V)]) -> bool
+    ensures { OnTrue result (IsBelow K.cmp entry.now entries.now) }
+{
+    match entries.split_first() {
+        Some((next, _)) => match entry.0.cmp(&next.0) {
+            Ordering::Less => true,
+            _ => false,
+        },
+        None => true,
     }
 }
 

@@ -8,7 +8,7 @@ use crate::deserialize::Deserialize;
 use crate::deserialize_error::DeserializeError;
 use crate::deserializer::Deserializer;
 use crate::fixed_content::FixedContent;
-use crate::impls::encoded_maps::keys_differ;
+use crate::impls::encoded_maps::ordered_keys_differ;
 use crate::impls::numbers::read_numbers;
 use amqp_decode::prefix::{
     GaveUp, read_byte, read_int, read_long, read_short, read_ubyte, read_uint, read_ulong,
@@ -136,7 +136,7 @@ impl Deserialize for u32 {
     }
 
     fn have_distinct_trees<V>(alloc: Global, entries: &[(u32, V)]) -> bool {
-        keys_differ(alloc, entries)
+        ordered_keys_differ(alloc, entries)
     }
 }
 
@@ -185,7 +185,7 @@ impl Deserialize for u64 {
     }
 
     fn have_distinct_trees<V>(alloc: Global, entries: &[(u64, V)]) -> bool {
-        keys_differ(alloc, entries)
+        ordered_keys_differ(alloc, entries)
     }
 }
 
@@ -309,7 +309,7 @@ impl Deserialize for i32 {
     }
 
     fn have_distinct_trees<V>(alloc: Global, entries: &[(i32, V)]) -> bool {
-        keys_differ(alloc, entries)
+        ordered_keys_differ(alloc, entries)
     }
 }
 
@@ -358,6 +358,6 @@ impl Deserialize for i64 {
     }
 
     fn have_distinct_trees<V>(alloc: Global, entries: &[(i64, V)]) -> bool {
-        keys_differ(alloc, entries)
+        ordered_keys_differ(alloc, entries)
     }
 }
