@@ -12,11 +12,13 @@ use Rattle.amqp_data.proofs.Searches.{AllFail, fail_by_position}
 use Rattle.amqp_ser.specs.Same.{same_tree}
 use Rattle.amqp_ser.specs.Tree as tree
 use Rattle.amqp_ser.specs.Tree.{Tree, Scalar, scalar, pair, no_pairs}
-use Rattle.amqp_value.proofs.SameLemmas.{same-equal}
+use Rattle.amqp_value.proofs.SameLemmas.{same-equal, same-itself}
+use Rattle.amqp_value.proofs.Sameness.{equal, equal-is_same}
 use Rattle.amqp_value.proofs.Zips.{zip_push, fold_push}
 use Rattle.amqp_value.specs.Converts.{inserted_in_order}
 use Rattle.amqp_value.specs.Image.{insert_tree}
-use Rattle.amqp_value.specs.TreeOf.{pairs_of}
+use Rattle.amqp_value.specs.TreeOf.{pairs_of, tree_of}
+use Rattle.amqp_value.specs.declared.value.Value.{Value}
 use Rattle.amqp_decode.specs.Parsed.{FrameReader, insert, parse, parse_content}
 use Rattle.amqp_decode.specs.Prefix.{IsMapOf}
 use Rattle.amqp_decode.proofs.Levels.{parse_frame}
@@ -206,3 +208,10 @@ module _ {K V : Type 0} (eq : K → K → Bool) (cmp : K → K → Ordering) (to
   pub climbs_distinct : (es : List (K × V)) → Climbs cmp es → AreDistinct eq (keys_of es)
   climbs_distinct [] climbs = tt
   climbs_distinct (e ∷ es) climbs = (below_lacks e.0 es (below_all e es climbs.0 climbs.1), climbs_distinct es climbs.1)
+
+value_told : (t : Tree) (x y : Value) → tree_of x ≡ t → tree_of y ≡ t → equal x y ≡ true
+value_told t x y r s = equal-is_same x y ∙ rw (r ∙ sym s) (same-itself (tree_of y))
+
+pub values_apart : (b : Bool) (xs : List Value) → OnTrue b (AreDistinct equal xs) → OnTrue b ((ts : List Tree) → AllZip (λ t x. tree_of x ≡ t) ts xs → AreApart ts)
+values_apart false xs distinct = tt
+values_apart true xs distinct = apart_trees (λ t x. tree_of x ≡ t) equal value_told xs distinct

@@ -242,6 +242,10 @@ impl Deserialize for Timestamp {
         let items = read_numbers::<Timestamp, 8>(alloc, count, content)?;
         Ok(items)
     }
+
+    fn have_distinct_trees<V>(alloc: Global, entries: &[(Timestamp, V)]) -> bool {
+        ordered_keys_differ(alloc, entries)
+    }
 }
 
 impl Deserialize for Uuid {

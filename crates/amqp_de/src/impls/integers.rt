@@ -44,6 +44,10 @@ impl Deserialize for u8 {
         *input = rest;
         Ok(value)
     }
+
+    fn have_distinct_trees<V>(alloc: Global, entries: &[(u8, V)]) -> bool {
+        ordered_keys_differ(alloc, entries)
+    }
 }
 
 impl Deserialize for u16 {
@@ -88,6 +92,10 @@ impl Deserialize for u16 {
         }
         let items = read_numbers::<u16, 2>(alloc, count, content)?;
         Ok(items)
+    }
+
+    fn have_distinct_trees<V>(alloc: Global, entries: &[(u16, V)]) -> bool {
+        ordered_keys_differ(alloc, entries)
     }
 }
 
@@ -217,6 +225,10 @@ impl Deserialize for i8 {
         *input = rest;
         Ok(value)
     }
+
+    fn have_distinct_trees<V>(alloc: Global, entries: &[(i8, V)]) -> bool {
+        ordered_keys_differ(alloc, entries)
+    }
 }
 
 impl Deserialize for i16 {
@@ -261,6 +273,10 @@ impl Deserialize for i16 {
         }
         let items = read_numbers::<i16, 2>(alloc, count, content)?;
         Ok(items)
+    }
+
+    fn have_distinct_trees<V>(alloc: Global, entries: &[(i16, V)]) -> bool {
+        ordered_keys_differ(alloc, entries)
     }
 }
 
