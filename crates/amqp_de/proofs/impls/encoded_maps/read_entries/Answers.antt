@@ -1,4 +1,4 @@
-use Rattle.std.proofs.Common.{rules, ◌≡◌, suc, [], ◌∷◌, ◌++◌, Some, ap, ◌∙◌, arith, length}
+use Rattle.std.proofs.Common.{rules, ◌≡◌, suc, [], ◌∷◌, ◌++◌, arith, length}
 use Rattle.std.proofs.lemmas.Grind.{common_steps}
 use Rattle.amqp_decode.specs.Parsed.{parse}
 use Rattle.amqp_de.proofs.MapReadings.{ReadingPair, pairs_none, pairs_next, pairs_filled}
