@@ -7,6 +7,7 @@ pub mod LeftOut
 pub mod Leaves
 pub mod Fillings
 pub mod Readings
+pub mod MapReadings
 pub mod Chunks
 pub mod FieldLemmas
 pub mod OtherCodes
@@ -16,3 +17,4 @@ pub mod NotArray
 pub mod MultipleReadings
 pub mod DefaultedReadings
 pub mod CompositeReadings
+pub mod DescriptorReadings

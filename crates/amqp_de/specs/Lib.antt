@@ -1,6 +1,7 @@
 -- The contracts of public items use all of these modules.
 pub mod Values
 pub mod Maps
+pub mod EncodedMaps
 pub mod Reads
 pub mod Fields
 pub mod Present

@@ -1,10 +1,14 @@
 //! Types that can be read from a deserializer.
 
-ghost use Rattle.std.specs.Prelude.{◌∷◌, suc, IfOk};
+ghost use Rattle.std.specs.Prelude.{◌∷◌, suc, IfOk, List};
+ghost use Rattle.std.specs.Bool.{OnTrue};
+ghost use Rattle.std.specs.List.{AllZip};
+ghost use Rattle.std.specs.Map.{keys_of};
 ghost use Rattle.amqp_ser.specs.Tree.{Tree};
 ghost use Rattle.amqp_decode.specs.Parsed.{parse};
 ghost use Rattle.amqp_decode.specs.Prefix.{item_of};
 ghost use Rattle.amqp_de.specs.Encoded.{Reading, ReadsPrefix, Fills};
+ghost use Rattle.amqp_de.specs.EncodedMaps.{AreApart};
 ghost use Rattle.amqp_de.specs.Answers.{Answers, Restores};
 
 use crate::deserialize_error::DeserializeError;
@@ -118,5 +122,22 @@ pub trait Deserialize: Sized + Drop {
         } else {
             Err(GaveUp)
         }
+    }
+
+    /// Returns true if it is certain that the keys of these entries are read from distinct trees.
+    /// `read_encoded` of a map asks its type of keys, and gives up on false.
+    ///
+    /// The provided method returns false.
+    ///
+    /// # Memory
+    /// Frees what it allocates from `alloc`.
+    ///
+    /// # Example
+    /// As `u32`, for the keys 2 and 1, returns true. For the keys 2 and 2, returns false.
+    fn have_distinct_trees<V>(alloc: Global, entries: &[(Self, V)]) -> bool
+        ensures { OnTrue result ((ts : List Tree) →
+            AllZip reads ts (keys_of entries.now) → AreApart ts) }
+    {
+        false
     }
 }

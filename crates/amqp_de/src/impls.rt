@@ -2,6 +2,7 @@
 
 mod arrays;
 mod described;
+mod encoded_maps;
 mod fixed_widths;
 mod holders;
 mod integers;

@@ -1,8 +1,10 @@
 //! Descriptors and described values.
 
-ghost use Rattle.std.specs.Prelude.{◌≡◌};
+ghost use Rattle.std.specs.Prelude.{◌≡◌, ◌∷◌, IfOk};
 ghost use Rattle.amqp_ser.specs.Carried.{descriptor_content};
 ghost use Rattle.amqp_ser.specs.Tree.{described};
+ghost use Rattle.amqp_decode.specs.Prefix.{IsScalar};
+ghost use Rattle.amqp_decode.specs.Spells.{descriptor_scalar};
 ghost use Rattle.amqp_de.specs.Fields.{OnDescribed};
 ghost use Rattle.amqp_de.specs.Reads.{Always, descriptor_tree};
 
@@ -11,7 +13,7 @@ use crate::deserialize::Deserialize;
 use crate::deserialize_error::DeserializeError;
 use crate::deserializer::Deserializer;
 use amqp_data::{Described, Descriptor};
-use amqp_decode::prefix::{GaveUp, below, split_byte, split_descriptor};
+use amqp_decode::prefix::{GaveUp, below, read_symbol, read_ulong, split_byte, split_descriptor};
 use std::alloc::Global;
 
 impl Deserialize for Descriptor {
@@ -31,6 +33,31 @@ impl Deserialize for Descriptor {
             Content::Ulong(code) => Ok(Descriptor::Code(code)),
             Content::Symbol(name) => Ok(Descriptor::Name(name)),
             _ => Err(D::Error::invalid_value()),
+        }
+    }
+
+    fn read_encoded(
+        alloc: Global,
+        code: u8,
+        input: &mut &[u8],
+        _depth: u16,
+    ) -> Result<Descriptor, GaveUp> {
+        let (value, rest) = read_descriptor(alloc, code, *input)?;
+        *input = rest;
+        Ok(value)
+    }
+}
+
+// Reads a ulong or a symbol as a descriptor.
+fn read_descriptor(alloc: Global, code: u8, bytes: &[u8]) -> Result<(Descriptor, &[u8]), GaveUp>
+    ensures { IfOk result (λ r. IsScalar (code ∷ bytes.now) r.1.now
+        (descriptor_scalar (descriptor_content r.0))) }
+{
+    match read_ulong(code, bytes) {
+        Ok((number, rest)) => Ok((Descriptor::Code(number), rest)),
+        Err(_) => {
+            let (name, rest) = read_symbol(alloc, code, bytes)?;
+            Ok((Descriptor::Name(name), rest))
         }
     }
 }

@@ -10,6 +10,7 @@ use crate::deserialize::Deserialize;
 use crate::deserialize_error::DeserializeError;
 use crate::deserializer::Deserializer;
 use crate::fixed_content::FixedContent;
+use crate::impls::encoded_maps::ordered_keys_differ;
 use crate::impls::numbers::read_numbers;
 use amqp_data::{Dec32, Dec64, Dec128, F32Bits, F64Bits, Timestamp, Uuid};
 use amqp_decode::prefix::{
@@ -241,6 +242,10 @@ impl Deserialize for Timestamp {
         let items = read_numbers::<Timestamp, 8>(alloc, count, content)?;
         Ok(items)
     }
+
+    fn have_distinct_trees<V>(alloc: Global, entries: &[(Timestamp, V)]) -> bool {
+        ordered_keys_differ(alloc, entries)
+    }
 }
 
 impl Deserialize for Uuid {
@@ -269,5 +274,9 @@ impl Deserialize for Uuid {
         let (value, rest) = read_uuid(code, *input)?;
         *input = rest;
         Ok(value)
+    }
+
+    fn have_distinct_trees<V>(alloc: Global, entries: &[(Uuid, V)]) -> bool {
+        ordered_keys_differ(alloc, entries)
     }
 }

@@ -8,6 +8,7 @@ ghost use Rattle.amqp_de.specs.Reads.{ReadsOption, image_option, RestorableOptio
 use crate::deserialize::Deserialize;
 use crate::deserialize_error::DeserializeError;
 use crate::deserializer::Deserializer;
+use crate::impls::encoded_maps::keys_differ;
 use amqp_decode::prefix::{GaveUp, read_value_after_code};
 use amqp_value::Value;
 use std::alloc::Global;
@@ -99,5 +100,9 @@ impl Deserialize for Value {
             Ok(value) => Ok(value),
             Err(error) => Err(error),
         }
+    }
+
+    fn have_distinct_trees<V>(alloc: Global, entries: &[(Value, V)]) -> bool {
+        keys_differ(alloc, entries)
     }
 }

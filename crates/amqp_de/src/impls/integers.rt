@@ -8,6 +8,7 @@ use crate::deserialize::Deserialize;
 use crate::deserialize_error::DeserializeError;
 use crate::deserializer::Deserializer;
 use crate::fixed_content::FixedContent;
+use crate::impls::encoded_maps::ordered_keys_differ;
 use crate::impls::numbers::read_numbers;
 use amqp_decode::prefix::{
     GaveUp, read_byte, read_int, read_long, read_short, read_ubyte, read_uint, read_ulong,
@@ -42,6 +43,10 @@ impl Deserialize for u8 {
         let (value, rest) = read_ubyte(code, *input)?;
         *input = rest;
         Ok(value)
+    }
+
+    fn have_distinct_trees<V>(alloc: Global, entries: &[(u8, V)]) -> bool {
+        ordered_keys_differ(alloc, entries)
     }
 }
 
@@ -88,6 +93,10 @@ impl Deserialize for u16 {
         let items = read_numbers::<u16, 2>(alloc, count, content)?;
         Ok(items)
     }
+
+    fn have_distinct_trees<V>(alloc: Global, entries: &[(u16, V)]) -> bool {
+        ordered_keys_differ(alloc, entries)
+    }
 }
 
 impl Deserialize for u32 {
@@ -132,6 +141,10 @@ impl Deserialize for u32 {
         }
         let items = read_numbers::<u32, 4>(alloc, count, content)?;
         Ok(items)
+    }
+
+    fn have_distinct_trees<V>(alloc: Global, entries: &[(u32, V)]) -> bool {
+        ordered_keys_differ(alloc, entries)
     }
 }
 
@@ -178,6 +191,10 @@ impl Deserialize for u64 {
         let items = read_numbers::<u64, 8>(alloc, count, content)?;
         Ok(items)
     }
+
+    fn have_distinct_trees<V>(alloc: Global, entries: &[(u64, V)]) -> bool {
+        ordered_keys_differ(alloc, entries)
+    }
 }
 
 impl Deserialize for i8 {
@@ -207,6 +224,10 @@ impl Deserialize for i8 {
         let (value, rest) = read_byte(code, *input)?;
         *input = rest;
         Ok(value)
+    }
+
+    fn have_distinct_trees<V>(alloc: Global, entries: &[(i8, V)]) -> bool {
+        ordered_keys_differ(alloc, entries)
     }
 }
 
@@ -253,6 +274,10 @@ impl Deserialize for i16 {
         let items = read_numbers::<i16, 2>(alloc, count, content)?;
         Ok(items)
     }
+
+    fn have_distinct_trees<V>(alloc: Global, entries: &[(i16, V)]) -> bool {
+        ordered_keys_differ(alloc, entries)
+    }
 }
 
 impl Deserialize for i32 {
@@ -298,6 +323,10 @@ impl Deserialize for i32 {
         let items = read_numbers::<i32, 4>(alloc, count, content)?;
         Ok(items)
     }
+
+    fn have_distinct_trees<V>(alloc: Global, entries: &[(i32, V)]) -> bool {
+        ordered_keys_differ(alloc, entries)
+    }
 }
 
 impl Deserialize for i64 {
@@ -342,5 +371,9 @@ impl Deserialize for i64 {
         }
         let items = read_numbers::<i64, 8>(alloc, count, content)?;
         Ok(items)
+    }
+
+    fn have_distinct_trees<V>(alloc: Global, entries: &[(i64, V)]) -> bool {
+        ordered_keys_differ(alloc, entries)
     }
 }

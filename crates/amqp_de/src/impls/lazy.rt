@@ -7,6 +7,7 @@ ghost use Rattle.amqp_de.specs.Reads.{ReadsLazy};
 use crate::deserialize::Deserialize;
 use crate::deserializer::Deserializer;
 use crate::unwritable::unwritable;
+use amqp_decode::prefix::{GaveUp, read_value_after_code};
 use amqp_frame::LazyValue;
 use amqp_wire::to_lazy_value;
 use std::alloc::Global;
@@ -33,6 +34,19 @@ impl Deserialize for LazyValue {
         match to_lazy_value(alloc, &deserializer.into_value()) {
             Ok(lazy) => Ok(lazy),
             Err(error) => Err(unwritable(error)),
+        }
+    }
+
+    fn read_encoded(
+        alloc: Global,
+        code: u8,
+        input: &mut &[u8],
+        depth: u16,
+    ) -> Result<LazyValue, GaveUp> {
+        let value = read_value_after_code(alloc, code, input, depth)?;
+        match to_lazy_value(alloc, &value) {
+            Ok(lazy) => Ok(lazy),
+            Err(_) => Err(GaveUp),
         }
     }
 }

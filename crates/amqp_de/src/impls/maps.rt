@@ -1,6 +1,6 @@
 //! Maps, whose keys and values are read and inserted in order.
 
-ghost use Rattle.std.specs.Prelude.{◌≡◌, List, [], ◌∷◌, ◌++◌, IsTrue, map, MatchResult};
+ghost use Rattle.std.specs.Prelude.{◌≡◌, List, [], ◌∷◌, ◌++◌, IfOk, IsTrue, map, MatchResult};
 ghost use Rattle.std.specs.List.{AllZip, AllByRecursion};
 ghost use Rattle.std.specs.HashMap as hashed;
 ghost use Rattle.std.specs.Map.{keys_of};
@@ -16,7 +16,9 @@ use crate::content::Content;
 use crate::deserialize::Deserialize;
 use crate::deserialize_error::DeserializeError;
 use crate::deserializer::Deserializer;
+use crate::impls::encoded_maps::{keys_and_trees_differ, read_entries};
 use amqp_data::{OrderedMap, OrderedMapBuilder};
+use amqp_decode::prefix::{GaveUp, below, split_map};
 use std::alloc::Global;
 use std::collections::{BTreeMap, HashMap};
 use std::hash::Hash;
@@ -85,6 +87,25 @@ fn read_pairs<K: Deserialize, V: Deserialize, M: Inserts<K, V>, D: Deserializer>
             None => return Ok(map),
         }
     }
+}
+
+/// Inserts the entries in order into an empty map.
+///
+/// # Errors
+/// Returns `GaveUp` if an allocation fails.
+fn insert_all<K: Drop, V: Drop, M: Inserts<K, V>>(
+    alloc: Global,
+    entries: Vec<(K, V)>,
+) -> Result<M, GaveUp>
+    ensures { IfOk result (M.holds entries.items) }
+{
+    let mut map = M::empty(alloc, entries.len());
+    for (key, value) in entries {
+        if !map.put(key, value) {
+            return Err(GaveUp);
+        }
+    }
+    Ok(map)
 }
 
 impl<K: Hash + Eq + Drop, V: Drop> Inserts<K, V> for OrderedMap<K, V> {
@@ -167,6 +188,23 @@ impl<K: Deserialize + Hash + Eq, V: Deserialize> Deserialize for OrderedMap<K, V
             _ => Err(D::Error::invalid_value()),
         }
     }
+
+    fn read_encoded(
+        alloc: Global,
+        code: u8,
+        input: &mut &[u8],
+        depth: u16,
+    ) -> Result<OrderedMap<K, V>, GaveUp> {
+        let (count, body, rest) = split_map(code, *input)?;
+        *input = rest;
+        let inside = below(depth)?;
+        let entries = read_entries::<K, V>(alloc, count, body, inside)?;
+        if keys_and_trees_differ(alloc, &entries) {
+            Ok(OrderedMap::from_distinct(entries))
+        } else {
+            Err(GaveUp)
+        }
+    }
 }
 
 #[tactic(auto, using(crate::proofs::Lists::entries_in_pairs, crate::proofs::Lists::same_maps), unfolding(crate::specs::Maps::OnMap))]
@@ -192,6 +230,25 @@ impl<K: Deserialize + Ord, V: Deserialize> Deserialize for BTreeMap<K, V> {
                 }
             }
             _ => Err(D::Error::invalid_value()),
+        }
+    }
+
+    fn read_encoded(
+        alloc: Global,
+        code: u8,
+        input: &mut &[u8],
+        depth: u16,
+    ) -> Result<BTreeMap<K, V>, GaveUp> {
+        let (count, body, rest) = split_map(code, *input)?;
+        *input = rest;
+        let inside = below(depth)?;
+        let entries = read_entries::<K, V>(alloc, count, body, inside)?;
+        if !K::have_distinct_trees(alloc, &entries) {
+            return Err(GaveUp);
+        }
+        match insert_all::<K, V, BTreeMap<K, V>>(alloc, entries) {
+            Ok(map) => Ok(map),
+            Err(error) => Err(error),
         }
     }
 }
@@ -220,6 +277,25 @@ impl<K: Deserialize + Hash + Eq, V: Deserialize> Deserialize for HashMap<K, V> {
                 }
             }
             _ => Err(D::Error::invalid_value()),
+        }
+    }
+
+    fn read_encoded(
+        alloc: Global,
+        code: u8,
+        input: &mut &[u8],
+        depth: u16,
+    ) -> Result<HashMap<K, V>, GaveUp> {
+        let (count, body, rest) = split_map(code, *input)?;
+        *input = rest;
+        let inside = below(depth)?;
+        let entries = read_entries::<K, V>(alloc, count, body, inside)?;
+        if !K::have_distinct_trees(alloc, &entries) {
+            return Err(GaveUp);
+        }
+        match insert_all::<K, V, HashMap<K, V>>(alloc, entries) {
+            Ok(map) => Ok(map),
+            Err(error) => Err(error),
         }
     }
 }

@@ -8,6 +8,7 @@ use crate::deserialize::Deserialize;
 use crate::deserialize_error::DeserializeError;
 use crate::deserializer::Deserializer;
 use crate::fixed_content::FixedContent;
+use crate::impls::encoded_maps::ordered_keys_differ;
 use amqp_decode::prefix::{GaveUp, read_bool, read_char, read_null};
 use std::alloc::Global;
 
@@ -69,6 +70,10 @@ impl Deserialize for bool {
         *input = rest;
         Ok(value)
     }
+
+    fn have_distinct_trees<V>(alloc: Global, entries: &[(bool, V)]) -> bool {
+        ordered_keys_differ(alloc, entries)
+    }
 }
 
 impl Deserialize for char {
@@ -98,5 +103,9 @@ impl Deserialize for char {
         let (value, rest) = read_char(code, *input)?;
         *input = rest;
         Ok(value)
+    }
+
+    fn have_distinct_trees<V>(alloc: Global, entries: &[(char, V)]) -> bool {
+        ordered_keys_differ(alloc, entries)
     }
 }

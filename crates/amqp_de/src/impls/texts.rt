@@ -10,6 +10,7 @@ use crate::content::Content;
 use crate::deserialize::Deserialize;
 use crate::deserialize_error::DeserializeError;
 use crate::deserializer::Deserializer;
+use crate::impls::encoded_maps::ordered_keys_differ;
 use amqp_data::{ByteBuf, Symbol};
 use amqp_decode::prefix::{GaveUp, read_binary, read_string, read_symbol};
 use std::alloc::Global;
@@ -41,6 +42,10 @@ impl Deserialize for ByteBuf {
         *input = rest;
         Ok(value)
     }
+
+    fn have_distinct_trees<V>(alloc: Global, entries: &[(ByteBuf, V)]) -> bool {
+        ordered_keys_differ(alloc, entries)
+    }
 }
 
 impl Deserialize for String {
@@ -71,6 +76,10 @@ impl Deserialize for String {
         *input = rest;
         Ok(value)
     }
+
+    fn have_distinct_trees<V>(alloc: Global, entries: &[(String, V)]) -> bool {
+        ordered_keys_differ(alloc, entries)
+    }
 }
 
 impl Deserialize for Symbol {
@@ -99,5 +108,9 @@ impl Deserialize for Symbol {
         let (value, rest) = read_symbol(alloc, code, *input)?;
         *input = rest;
         Ok(value)
+    }
+
+    fn have_distinct_trees<V>(alloc: Global, entries: &[(Symbol, V)]) -> bool {
+        ordered_keys_differ(alloc, entries)
     }
 }
