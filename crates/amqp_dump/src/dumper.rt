@@ -1,19 +1,23 @@
 //! Goes over an input and shows it.
 
-use crate::fault::{Fault, output_fault};
+use crate::fault::{Fault, Found};
 use crate::item::{Item, ItemKind};
-use crate::json::{Json, json_fault};
+use crate::json::{Json, push_json_fault};
 use crate::level::LevelKind;
+use crate::line::Line;
 use crate::marks::Marks;
 use crate::options::{Form, Options};
 use crate::scanner::Scanner;
 use crate::select::Selector;
 use crate::source::Taking;
 use crate::summary::Summary;
-use crate::text::text_part;
-use crate::tree::{Found, fault_line, tree_line};
-use serde_amqp::Write;
+use crate::text::push_text;
+use crate::tree::{push_fault, push_line};
 use std::alloc::Global;
+use std::io::Write;
+
+// The bytes of text that are written at once, or a line more.
+const BUFFER: usize = 8192;
 
 /// What a run has found.
 #[derive(Drop)]
@@ -34,6 +38,7 @@ struct Dumper {
     scanner: Scanner,
     marks: Marks,
     json: Json,
+    line: Line,
     // The depth of the value that is selected, if one is.
     selected: Option<usize>,
     // Whether the rest of the frame has no JSON.
@@ -48,12 +53,13 @@ struct Dumper {
 /// # Errors
 ///
 /// Returns [`Fault::Input`] if a read fails, [`Fault::Output`] if a write fails, and
-/// [`Fault::OutOfMemory`] if an allocation fails. A fault of the input is no error: it is shown,
-/// and counted in the report.
+/// [`Fault::OutOfMemory`] if an allocation fails. What was shown before is written first. A fault of
+/// the input is no error: it is shown, and counted in the report.
 ///
 /// # Memory
 ///
-/// One entry for each open value, and one item. A JSON object is kept until it is whole.
+/// One entry for each open value, one item, and 8 KiB of text. A JSON object is kept until it is
+/// whole.
 pub fn run<S: Taking, W: Write>(
     alloc: Global,
     source: &mut S,
@@ -61,10 +67,9 @@ pub fn run<S: Taking, W: Write>(
     options: &Options,
     selector: Option<&Selector>,
 ) -> Result<Report, Fault> {
-    let piece = if options.form == Form::Tree {
-        options.most_bytes
-    } else {
-        4096
+    let piece = match options.form {
+        Form::Tree => options.most_bytes,
+        _ => 4096,
     };
     let mut dumper = Dumper {
         alloc,
@@ -72,6 +77,7 @@ pub fn run<S: Taking, W: Write>(
         scanner: Scanner::new(alloc, options.frames, piece),
         marks: Marks::new(alloc),
         json: Json::new(alloc),
+        line: Line::new(alloc, options.color),
         selected: None,
         is_muted: false,
         report: Report {
@@ -80,24 +86,49 @@ pub fn run<S: Taking, W: Write>(
             summary: Summary::new(alloc)?,
         },
     };
-    for _ in 0..u64::MAX {
-        if !dumper.step(source, writer, selector)? {
-            break;
-        }
+    let result = dumper.show_all(source, writer, selector);
+    dumper.write(writer)?;
+    result?;
+    if writer.flush().is_err() {
+        return Err(Fault::Output);
     }
     dumper.report.summary.end_root();
-    match writer.flush() {
-        Ok(()) => Ok(dumper.report),
-        Err(error) => Err(output_fault(error)),
-    }
+    Ok(dumper.report)
 }
 
 impl Dumper {
-    // Shows the next item. Returns false at the end.
-    fn step<S: Taking, W: Write>(
+    // Shows all items.
+    fn show_all<S: Taking, W: Write>(
         &mut self,
         source: &mut S,
         writer: &mut W,
+        selector: Option<&Selector>,
+    ) -> Result<(), Fault> {
+        for _ in 0..u64::MAX {
+            if !self.step(source, selector)? {
+                break;
+            }
+            if self.line.text.len() >= BUFFER {
+                self.write(writer)?;
+            }
+        }
+        Ok(())
+    }
+
+    // Writes the text.
+    fn write<W: Write>(&mut self, writer: &mut W) -> Result<(), Fault> {
+        let result = writer.write_all(self.line.text.as_bytes());
+        self.line.text.clear();
+        match result {
+            Ok(()) => Ok(()),
+            Err(_) => Err(Fault::Output),
+        }
+    }
+
+    // Shows the next item. Returns false at the end.
+    fn step<S: Taking>(
+        &mut self,
+        source: &mut S,
         selector: Option<&Selector>,
     ) -> Result<bool, Fault> {
         let ended = self.scanner.levels().is_empty() && !self.scanner.is_in_payload();
@@ -107,85 +138,71 @@ impl Dumper {
         match self.scanner.next(source) {
             Ok(item) if item.kind == ItemKind::End => Ok(false),
             Ok(item) => {
-                let text = self.item_text(item, source.taken(), selector)?;
-                put(writer, text.as_str())?;
+                self.show(item, source.taken(), selector)?;
                 Ok(true)
             }
             Err(fault) => {
                 let found = self.found(source, fault)?;
-                let text = self.fault_text(&found, source.taken())?;
-                put(writer, text.as_str())?;
+                self.show_fault(&found, source.taken())?;
                 Ok(self.go_on(found))
             }
         }
     }
 
-    // Returns what is written for an item.
-    fn item_text(
-        &mut self,
-        item: Item,
-        bytes: &[u8],
-        selector: Option<&Selector>,
-    ) -> Result<String, Fault> {
+    // Shows an item.
+    fn show(&mut self, item: Item, bytes: &[u8], selector: Option<&Selector>) -> Result<(), Fault> {
         self.report.summary.add(item, bytes.len());
         if self.options.form == Form::Tree {
             self.marks.add(item, self.scanner.levels(), bytes)?;
         }
         if !self.is_selected(item, selector)? {
-            return Ok(String::new(self.alloc));
+            return Ok(());
         }
-        let text = match self.options.form {
-            Form::Tree => tree_line(
+        let levels = self.scanner.levels();
+        let in_payload = self.scanner.is_in_payload();
+        match self.options.form {
+            Form::Tree => push_line(
                 self.alloc,
+                &mut self.line,
                 item,
-                self.scanner.levels(),
+                levels,
                 bytes,
                 self.marks.found(),
                 &self.options,
             )?,
-            Form::Text => text_part(
-                self.alloc,
-                item,
-                self.selected.unwrap_or(usize::from(self.is_in_frame())),
-                self.scanner.levels(),
-                bytes,
-                self.scanner.is_in_payload(),
-            )?,
-            Form::Json => self.json_text(item, bytes)?,
-        };
-        self.end_selected(item, selector.is_some());
-        Ok(text)
-    }
-
-    // Returns the JSON objects that end with an item.
-    fn json_text(&mut self, item: Item, bytes: &[u8]) -> Result<String, Fault> {
-        if self.is_muted {
-            self.is_muted = item.kind != ItemKind::Closes(LevelKind::Frame);
-            return Ok(String::new(self.alloc));
+            Form::Text => {
+                let base = self.selected.unwrap_or(usize::from(self.is_in_frame()));
+                push_text(
+                    self.alloc,
+                    &mut self.line,
+                    item,
+                    base,
+                    levels,
+                    bytes,
+                    in_payload,
+                )?;
+            }
+            Form::Json if self.is_muted => {
+                self.is_muted = item.kind != ItemKind::Closes(LevelKind::Frame);
+            }
+            Form::Json => {
+                let base = self.selected.unwrap_or(0);
+                self.json
+                    .add(&mut self.line.text, item, base, levels, bytes, in_payload)?;
+            }
         }
-        let in_payload = self.scanner.is_in_payload();
-        let base = self.selected.unwrap_or(0);
-        if self
-            .json
-            .add(item, base, self.scanner.levels(), bytes, in_payload)?
-        {
-            Ok(self.json.take())
-        } else {
-            Ok(String::new(self.alloc))
+        if selector.is_some() && item.ends_value(in_payload) && self.selected == Some(item.depth) {
+            self.selected = None;
         }
+        Ok(())
     }
 
     // Whether a frame is open.
     fn is_in_frame(&self) -> bool {
-        self.scanner
-            .levels()
-            .first()
-            .is_some_and(|level| level.kind == LevelKind::Frame)
-    }
-
-    // Whether a selected value ends with the item.
-    fn is_last_selected(&self, item: Item) -> bool {
-        item.ends_value(self.scanner.is_in_payload()) && self.selected == Some(item.depth)
+        match self.scanner.levels().first() {
+            Some(level) => level.kind == LevelKind::Frame,
+            None => false,
+        }
     }
 
     // Whether the item is in a value that is selected.
@@ -212,13 +229,6 @@ impl Dumper {
         Ok(is_selected)
     }
 
-    // Ends the selection at the end of its value.
-    fn end_selected(&mut self, item: Item, is_selecting: bool) {
-        if is_selecting && self.is_last_selected(item) {
-            self.selected = None;
-        }
-    }
-
     // Returns what is known of a fault, or the fault itself if the machine is its cause.
     fn found<S: Taking>(&self, source: &mut S, fault: Fault) -> Result<Found, Fault> {
         if fault.is_of_machine() {
@@ -234,20 +244,28 @@ impl Dumper {
         Found::new(self.alloc, fault, at, byte, roots, levels)
     }
 
-    // Returns what is written for a fault.
-    fn fault_text(&mut self, found: &Found, bytes: &[u8]) -> Result<String, Fault> {
+    // Shows a fault.
+    fn show_fault(&mut self, found: &Found, bytes: &[u8]) -> Result<(), Fault> {
         self.report.summary.add_fault(bytes.len());
         match self.options.form {
             Form::Tree => {
                 let depth = self.scanner.levels().len();
                 let start = self.scanner.start;
-                fault_line(self.alloc, found, start, bytes, depth, &self.options)
+                push_fault(
+                    self.alloc,
+                    &mut self.line,
+                    found,
+                    start,
+                    bytes,
+                    depth,
+                    &self.options,
+                )
             }
-            Form::Text => Ok(String::from_str(self.alloc, "\n")?),
+            Form::Text => self.line.push("\n"),
             Form::Json => {
-                let _ = self.json.take();
+                self.json.clear();
                 self.is_muted = true;
-                json_fault(self.alloc, found)
+                push_json_fault(&mut self.line.text, found)
             }
         }
     }
@@ -262,15 +280,5 @@ impl Dumper {
         self.marks.reset();
         self.selected = None;
         self.scanner.recover() && !is_end
-    }
-}
-
-fn put<W: Write>(writer: &mut W, text: &str) -> Result<(), Fault> {
-    if text.is_empty() {
-        return Ok(());
-    }
-    match writer.put(text.as_bytes()) {
-        Ok(()) => Ok(()),
-        Err(error) => Err(output_fault(error)),
     }
 }

@@ -1,10 +1,6 @@
 //! Reads bytes that are written in hexadecimal.
 
-ghost use Rattle.std.specs.Prelude.{◌≡◌, ◌≤◌, ◌⊎◌, None, IfErr, IsErrOf};
-ghost use Rattle.amqp_frame.specs.Reader.{last_count, Failed};
-
-use serde_amqp::Error;
-use serde_amqp::read::Read;
+use std::io;
 
 /// A reader of the bytes that another reader has in hexadecimal.
 ///
@@ -13,20 +9,20 @@ use serde_amqp::read::Read;
 #[derive(Drop)]
 pub struct HexReader<R> {
     inner: R,
-    // The byte that was peeked and not consumed.
-    seen: Option<u8>,
+    // The first digit of a byte of which the second was not read.
+    high: Option<u8>,
     // The number of characters that were read.
     read: u64,
     // Whether the input has ended at what is not hexadecimal.
     wrong: bool,
 }
 
-impl<R: Read> HexReader<R> {
+impl<R: io::Read> HexReader<R> {
     /// Creates a reader over `inner`.
     pub fn new(inner: R) -> HexReader<R> {
         HexReader {
             inner,
-            seen: None,
+            high: None,
             read: 0,
             wrong: false,
         }
@@ -38,119 +34,66 @@ impl<R: Read> HexReader<R> {
         if self.wrong { Some(self.read) } else { None }
     }
 
-    // Reads the next digit, or returns `None` at the end of the input.
-    #[tactic(auto, using(crate::proofs::Failures::failed_later))]
-    fn digit(&mut self, is_first: bool) -> Result<Option<u8>, Error>
-        ensures io { IfErr result (λ e. (e ≡ Error.Io)
-            × Failed (R.failures self.old.inner) (R.failures self.new.inner)) }
-        ensures count { R.failures self.old.inner ≤ R.failures self.new.inner }
-    {
-        for _ in 0..u64::MAX {
-            let Some(character) = self.inner.next()? else {
-                return Ok(None);
-            };
-            self.read = self.read.saturating_add(1);
-            if character.is_ascii_whitespace() {
-                continue;
-            }
-            if is_first && character == b'0' && self.is_prefix()? {
-                continue;
-            }
-            let digit = digit_of(character);
-            if digit.is_none() {
-                self.wrong = true;
-            }
-            return Ok(digit);
-        }
-        Ok(None)
-    }
-
-    // Takes an `x`, if it comes next.
-    fn is_prefix(&mut self) -> Result<bool, Error>
-        ensures io { IfErr result (λ e. (e ≡ Error.Io)
-            × Failed (R.failures self.old.inner) (R.failures self.new.inner)) }
-        ensures count { R.failures self.old.inner ≤ R.failures self.new.inner }
-    {
-        if !matches!(self.inner.peek()?, Some(b'x' | b'X')) {
-            return Ok(false);
-        }
-        let _ = self.inner.next()?;
+    // Returns the byte that ends with a character, if one does.
+    fn byte_of(&mut self, character: u8) -> Option<u8> {
         self.read = self.read.saturating_add(1);
-        Ok(true)
-    }
-
-    // Reads the next byte.
-    #[tactic(auto, using(crate::proofs::Failures::failed_later))]
-    fn take(&mut self) -> Result<Option<u8>, Error>
-        ensures io { IfErr result (λ e. (e ≡ Error.Io)
-            × Failed (R.failures self.old.inner) (R.failures self.new.inner)) }
-        ensures last { R.failures self.old.inner ≡ last_count → IsErrOf result Error.Io }
-        ensures count { R.failures self.old.inner ≤ R.failures self.new.inner }
-    {
-        let _ = self.inner.peek()?;
-        if self.wrong {
-            return Ok(None);
+        if character.is_ascii_whitespace() {
+            return None;
         }
-        let Some(high) = self.digit(true)? else {
-            return Ok(None);
-        };
-        let Some(low) = self.digit(false)? else {
+        if self.high == Some(0) && matches!(character, b'x' | b'X') {
+            self.high = None;
+            return None;
+        }
+        let Some(digit) = digit_of(character) else {
             self.wrong = true;
-            return Ok(None);
+            return None;
         };
-        Ok(Some(high.wrapping_mul(16).wrapping_add(low)))
+        let Some(high) = self.high else {
+            self.high = Some(digit);
+            return None;
+        };
+        self.high = None;
+        Some(high.wrapping_mul(16).wrapping_add(digit))
     }
 
-    // Fills `buf`.
-    #[tactic(auto, using(crate::proofs::Failures::failed_later))]
-    fn fill(&mut self, buf: &mut [u8]) -> Result<(), Error>
-        ensures io { IsErrOf result Error.Io →
-            Failed (R.failures self.old.inner) (R.failures self.new.inner) }
-        ensures others { IfErr result (λ e. (e ≡ Error.UnexpectedEof) ⊎ (e ≡ Error.Io)) }
-        ensures count { R.failures self.old.inner ≤ R.failures self.new.inner }
-    {
-        for place in 0..buf.len() {
-            let byte = match self.seen {
-                Some(byte) => Some(byte),
-                None => self.take()?,
-            };
-            self.seen = None;
-            let Some(byte) = byte else {
-                return Err(Error::UnexpectedEof);
-            };
-            buf[place] = byte;
+    // Puts the bytes that end in `characters` to the start of `buf`, and returns how many.
+    fn decode(&mut self, characters: &[u8], buf: &mut [u8]) -> usize {
+        let mut count: usize = 0;
+        for character in characters {
+            if self.wrong {
+                break;
+            }
+            if let Some(byte) = self.byte_of(*character) {
+                if let Some(place) = buf.get_mut(count) {
+                    *place = byte;
+                }
+                count = count.saturating_add(1);
+            }
         }
-        Ok(())
+        count.min(buf.len())
     }
 }
 
-impl<R: Read> Read for HexReader<R> {
-    ghost left = { λ _. None };
-
-    ghost failures = { λ r. R.failures r.inner };
-
-    fn peek(&mut self) -> Result<Option<u8>, Error> {
-        if self.seen.is_none() {
-            self.seen = self.take()?;
-        } else {
-            let _ = self.inner.peek()?;
+impl<R: io::Read> io::Read for HexReader<R> {
+    fn read(&mut self, buf: &mut [u8]) -> io::Result<usize> {
+        let mut block = [0; 4096];
+        // Two characters are a byte, so that all bytes that are read have a place.
+        let most = buf.len().min(block.len());
+        for _ in 0..u64::MAX {
+            if self.wrong || most == 0 {
+                break;
+            }
+            let got = self.inner.read(&mut block[..most])?;
+            if got == 0 {
+                self.wrong = self.high.is_some();
+                break;
+            }
+            let count = self.decode(&block[..got], buf);
+            if count > 0 {
+                return Ok(count);
+            }
         }
-        Ok(self.seen)
-    }
-
-    fn next(&mut self) -> Result<Option<u8>, Error> {
-        if self.seen.is_none() {
-            return self.take();
-        }
-        let _ = self.inner.peek()?;
-        let byte = self.seen;
-        self.seen = None;
-        Ok(byte)
-    }
-
-    fn read_exact(&mut self, buf: &mut [u8]) -> Result<(), Error> {
-        let _ = self.inner.peek()?;
-        self.fill(buf)
+        Ok(0)
     }
 }
 

@@ -6,21 +6,18 @@
 
 mod compounds;
 mod describe;
-mod digits;
 mod dumper;
-mod expected;
 mod fault;
 mod frames;
 mod hex_reader;
 mod item;
 mod json;
-mod json_text;
 mod kinds;
 mod level;
+mod line;
 mod marks;
 pub mod names;
 mod options;
-mod paint;
 mod path;
 mod payloads;
 mod scanner;
@@ -33,7 +30,7 @@ mod tree;
 mod types;
 
 pub use dumper::{Report, run};
-pub use fault::Fault;
+pub use fault::{Fault, Found};
 pub use hex_reader::HexReader;
 pub use item::{Item, ItemKind};
 pub use kinds::{Kind, Shape, kind_of};
@@ -43,4 +40,3 @@ pub use scanner::{MAX_DEPTH, Scanner};
 pub use select::Selector;
 pub use source::{Source, Taking, take_byte, take_bytes};
 pub use summary::Summary;
-pub use tree::Found;

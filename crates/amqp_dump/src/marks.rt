@@ -6,7 +6,7 @@ use crate::item::{Item, ItemKind};
 use crate::kinds::Kind;
 use crate::level::{Level, LevelKind};
 use crate::names;
-use crate::texts::{text_of, value_of};
+use crate::texts::value_of;
 use std::alloc::Global;
 
 // The most keys of a map, and the most bytes of a key, that are kept to find repeated ones.
@@ -145,9 +145,8 @@ impl Marks {
             return Ok(());
         }
         let value = value_of(self.alloc, bytes, code, is_in_array(outer))?;
-        let text = text_of(self.alloc, &value)?;
         let name = kind.name();
-        let key = format!(in self.alloc; "{name} {text}")?;
+        let key = format!(in self.alloc; "{name} {value}")?;
         let Some(keys) = self.maps.last_mut() else {
             return Ok(());
         };

@@ -5,7 +5,7 @@ ghost use Rattle.std.specs.Io.KnownBytes.{Keeps};
 ghost use Rattle.amqp_dump.specs.Kept.{Stays};
 
 use crate::fault::{Fault, input_fault};
-use serde_amqp::read::Read;
+use amqp_frame::Read;
 use std::alloc::Global;
 
 // The most bytes that are read at once.

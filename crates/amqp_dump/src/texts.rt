@@ -1,14 +1,17 @@
 //! The texts of scalars.
 
-ghost use Rattle.std.specs.Prelude.{◌≡◌, ◌++◌, IfOk, OnOk, string_bytes};
+ghost use Rattle.std.specs.Prelude.{◌≡◌, ◌++◌, ◌∷◌, IfOk, OnOk, string_bytes, if◌then◌else◌};
+ghost use Rattle.amqp_decode.specs.Spells.{Spells};
 ghost use Rattle.amqp_value.specs.Text.{text_of as shown};
 ghost use Rattle.amqp_value.specs.TreeOf.{tree_of};
 ghost use Rattle.amqp_dump.specs.Safe.{is_command, safe, safe_char};
 
+use crate::describe::is_in_array;
 use crate::fault::{Fault, input_fault};
 use crate::kinds::Kind;
-use serde_amqp::Value;
-use serde_amqp::decode::decode_value;
+use crate::level::Level;
+use amqp_decode::decode_value;
+use amqp_value::Value;
 use std::alloc::Global;
 use std::str;
 
@@ -53,7 +56,10 @@ pub(crate) fn value_of(
     bytes: &[u8],
     code: u8,
     in_array: bool,
-) -> Result<Value, Fault> {
+) -> Result<Value, Fault>
+    ensures value { IfOk result (λ v.
+        Spells 256 (if in_array then code ∷ bytes.now else bytes.now) (tree_of v)) }
+{
     if !in_array {
         return decoded(alloc, bytes);
     }
@@ -63,34 +69,70 @@ pub(crate) fn value_of(
     decoded(alloc, whole.as_slice())
 }
 
-fn decoded(alloc: Global, bytes: &[u8]) -> Result<Value, Fault> {
+fn decoded(alloc: Global, bytes: &[u8]) -> Result<Value, Fault>
+    ensures value { IfOk result (λ v. Spells 256 bytes.now (tree_of v)) }
+{
     match decode_value(alloc, bytes) {
         Ok(value) => Ok(value),
         Err(error) => Err(input_fault(error)),
     }
 }
 
-/// Returns the text of a value as `Display` writes it, with the characters escaped that a terminal
+/// Returns the first bytes of a long payload, as a value of its kind.
+pub(crate) fn first_payload(
+    alloc: Global,
+    kind: Kind,
+    levels: &[Level],
+    bytes: &[u8],
+) -> Result<Value, Fault> {
+    let (code, before) = if is_in_array(levels) {
+        (levels.last().map(|level| level.code), 0)
+    } else {
+        (bytes.first().copied(), 1)
+    };
+    let width = if code.unwrap_or(0) / 16 == 0xb { 4 } else { 1 };
+    let (_, payload) = bytes.split_at(bytes.len().min(before + width));
+    piece_value(alloc, kind, payload)
+}
+
+/// Returns a part of a payload, as a value of its kind.
+pub(crate) fn piece_value(alloc: Global, kind: Kind, payload: &[u8]) -> Result<Value, Fault> {
+    let code = match kind {
+        Kind::String => 0xb1,
+        Kind::Symbol => 0xb3,
+        _ => 0xb0,
+    };
+    let Ok(len) = u32::try_from(payload.len()) else {
+        return Err(Fault::OutOfMemory);
+    };
+    let mut whole = Vec::with_capacity(alloc, payload.len().saturating_add(4))?;
+    whole.extend_from_slice(&len.to_be_bytes())?;
+    whole.extend_from_slice(payload)?;
+    value_of(alloc, whole.as_slice(), code, true)
+}
+
+/// Appends the text of a value as `Display` writes it, with the characters escaped that a terminal
 /// takes as commands.
-pub(crate) fn text_of(alloc: Global, value: &Value) -> Result<String, Fault>
-    ensures text { IfOk result (λ text. string_bytes text ≡ safe (shown (tree_of value.now))) }
+pub(crate) fn push_value(alloc: Global, text: &mut String, value: &Value) -> Result<(), Fault>
+    ensures text { OnOk result
+        (string_bytes text.new ≡ string_bytes text.old ++ safe (shown (tree_of value.now))) }
 {
-    let text = value.to_string(alloc)?;
-    safe_text(alloc, text.as_str())
+    let shown = value.to_string(alloc)?;
+    push_safe(text, shown.as_str())
 }
 
-/// Returns a text with the characters escaped that a terminal takes as commands.
-fn safe_text(alloc: Global, text: &str) -> Result<String, Fault>
-    ensures text { IfOk result (λ shown. string_bytes shown ≡ safe text.now) }
+/// Appends a text with the characters escaped that a terminal takes as commands.
+pub(crate) fn push_safe(text: &mut String, part: &str) -> Result<(), Fault>
+    ensures text { OnOk result
+        (string_bytes text.new ≡ string_bytes text.old ++ safe part.now) }
 {
-    let mut shown = String::new(alloc);
-    for character in text.chars() {
-        push_safe(&mut shown, character)?;
+    for character in part.chars() {
+        push_safe_char(text, character)?;
     }
-    Ok(shown)
+    Ok(())
 }
 
-fn push_safe(text: &mut String, character: char) -> Result<(), Fault>
+fn push_safe_char(text: &mut String, character: char) -> Result<(), Fault>
     ensures text { OnOk result
         (string_bytes text.new ≡ string_bytes text.old ++ safe_char character) }
 {
@@ -103,9 +145,9 @@ fn push_safe(text: &mut String, character: char) -> Result<(), Fault>
     Ok(())
 }
 
-// Whether a terminal takes the character as a command, or changes the direction of the text or its
-// lines.
-fn is_command(code: u32) -> bool
+/// Whether a terminal takes the character as a command, or changes the direction of the text or its
+/// lines.
+pub(crate) fn is_command(code: u32) -> bool
     ensures { result ≡ is_command code }
 {
     code < 32

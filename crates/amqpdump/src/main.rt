@@ -5,13 +5,12 @@ mod arguments;
 mod progress;
 
 use amqp_dump::{Fault, HexReader, Report, Selector, Source, run};
+use amqp_frame::IoReader;
 use arguments::{Arguments, command, read_arguments};
 use progress::Progress;
-use serde_amqp::IoWriter;
-use serde_amqp::read::{IoReader, Read};
 use std::alloc::Global;
 use std::env::Env;
-use std::io::{BufReader, BufWriter, IsTerminal};
+use std::io::{BufReader, IsTerminal};
 use std::process::ExitCode;
 use std::rt::Files;
 use std::time::Clock;
@@ -99,42 +98,37 @@ fn over_reader<R: Print + Eprint + AllocGlobal, I: io::Read + Drop>(
     selector: &Option<Selector>,
     input: I,
 ) -> u8 {
-    let alloc = rt.alloc();
-    let Ok(input) = BufReader::new(alloc, input) else {
-        return out_of_memory(rt);
-    };
-    let reader = IoReader::new(input);
     if !arguments.hex {
-        let mut source = Source::new(alloc, reader);
-        let result = over_source(rt, &mut source, arguments, selector);
-        return status(rt, alloc, result);
+        let result = over_bytes(rt, input, arguments, selector);
+        return status(rt, result);
     }
-    let mut source = Source::new(alloc, HexReader::new(reader));
-    let result = over_source(rt, &mut source, arguments, selector);
-    let code = status(rt, alloc, result);
-    if let Some(at) = source.reader().wrong_at() {
+    let mut input = HexReader::new(input);
+    let result = over_bytes(rt, &mut input, arguments, selector);
+    let code = status(rt, result);
+    if let Some(at) = input.wrong_at() {
         let _ = eprintln!(rt; "amqpdump: character {at} of the input is not hexadecimal");
         return 1;
     }
     code
 }
 
-// Shows what a source has on standard output.
-fn over_source<R: Print + AllocGlobal, I: Read>(
+// Shows the bytes of a reader on standard output.
+fn over_bytes<R: Print + AllocGlobal, I: io::Read + Drop>(
     rt: &R,
-    source: &mut Source<I>,
+    input: I,
     arguments: &Arguments<'_>,
     selector: &Option<Selector>,
 ) -> Result<Report, Fault> {
     let alloc = rt.alloc();
-    let Ok(output) = BufWriter::new(alloc, io::writer(rt)) else {
+    let Ok(input) = BufReader::new(alloc, input) else {
         return Err(Fault::OutOfMemory);
     };
-    let mut writer = IoWriter::new(output);
+    let mut source = Source::new(alloc, IoReader::new(input));
+    let mut output = io::writer(rt);
     let report = run(
         alloc,
-        source,
-        &mut writer,
+        &mut source,
+        &mut output,
         &arguments.options,
         selector.as_ref(),
     )?;
@@ -148,13 +142,13 @@ fn over_source<R: Print + AllocGlobal, I: Read>(
 }
 
 // Returns the exit status, and tells what is wrong on standard error.
-fn status<R: Eprint>(rt: &R, alloc: Global, ended: Result<Report, Fault>) -> u8 {
+fn status<R: Eprint + AllocGlobal>(rt: &R, ended: Result<Report, Fault>) -> u8 {
     match ended {
         Ok(report) => {
             let Some(first) = report.first else {
                 return 0;
             };
-            if let Ok(text) = first.text(alloc) {
+            if let Ok(text) = first.text(rt.alloc()) {
                 let _ = eprintln!(rt; "amqpdump: {text}");
             }
             1

@@ -3,8 +3,7 @@
 #![tactic(auto)]
 
 use amqp_dump::{Fault, Form, HexReader, Options, Selector, Source, run};
-use serde_amqp::VecWriter;
-use serde_amqp::read::SliceReader;
+use amqp_frame::IoReader;
 use std::alloc::Global;
 use std::process::ExitCode;
 
@@ -45,18 +44,18 @@ fn dump(alloc: Global, form: &str, digits: &str) -> Result<Vec<u8>, Fault> {
         "json" => options.form = Form::Json,
         path => selector = Selector::parse(alloc, path)?,
     }
-    let reader = HexReader::new(SliceReader::new(digits.as_bytes()));
-    let mut source = Source::new(alloc, reader);
-    let mut writer = VecWriter::new(alloc);
-    let report = run(alloc, &mut source, &mut writer, &options, selector.as_ref())?;
-    let mut shown = writer.into_inner();
+    let mut reader = HexReader::new(digits.as_bytes());
+    let mut source = Source::new(alloc, IoReader::new(&mut reader));
+    let mut shown = Vec::new(alloc);
+    let report = run(alloc, &mut source, &mut shown, &options, selector.as_ref())?;
+    drop(source);
     if options.form == Form::Text {
         if let Some(found) = report.first {
             shown.extend_from_slice(found.text(alloc)?.as_bytes())?;
             shown.push(b'\n')?;
         }
     }
-    if source.reader().wrong_at().is_some() {
+    if reader.wrong_at().is_some() {
         shown.extend_from_slice(b"not hexadecimal\n")?;
     }
     Ok(shown)
