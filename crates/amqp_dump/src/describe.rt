@@ -28,11 +28,11 @@ pub(crate) fn describe(
         ItemKind::Repeats(count) => describe_repeated(line, count, levels),
         ItemKind::Scalar(kind, code) => {
             let value = value_of(alloc, bytes, code, is_in_array(levels))?;
-            describe_value(alloc, line, kind, &value)
+            describe_value(line, kind, &value)
         }
         ItemKind::Long(kind, len) => {
             let value = first_payload(alloc, kind, levels, bytes)?;
-            describe_value(alloc, line, kind, &value)?;
+            describe_value(line, kind, &value)?;
             write!(line.text, " .. {len} bytes")?;
             Ok(())
         }
@@ -62,7 +62,7 @@ fn describe_descriptor(
 ) -> Result<(), Fault> {
     line.space()?;
     line.paint(Part::Name)?;
-    push_descriptor(alloc, &mut line.text, bytes)?;
+    push_descriptor(alloc, line, bytes)?;
     if let Some(found) = code.and_then(names::type_of) {
         line.text.push_str(" ")?;
         line.text.push_str(found.name)?;
@@ -71,14 +71,14 @@ fn describe_descriptor(
 }
 
 /// Appends the descriptor after the code 00, as `Display` writes it.
-pub(crate) fn push_descriptor(alloc: Global, text: &mut String, bytes: &[u8]) -> Result<(), Fault> {
+pub(crate) fn push_descriptor(alloc: Global, line: &mut Line, bytes: &[u8]) -> Result<(), Fault> {
     let (_, descriptor) = bytes.split_at(bytes.len().min(1));
     let value = value_of(alloc, descriptor, 0, false)?;
     if let Value::Ulong(code) = value {
-        write!(text, "0x{code:x}")?;
+        write!(line.text, "0x{code:x}")?;
         return Ok(());
     }
-    push_value(alloc, text, &value)
+    push_value(&mut line.text, &mut line.shown, &value)
 }
 
 fn describe_compound(
@@ -137,13 +137,13 @@ fn describe_repeated(line: &mut Line, count: u32, levels: &[Level]) -> Result<()
     Ok(())
 }
 
-fn describe_value(alloc: Global, line: &mut Line, kind: Kind, value: &Value) -> Result<(), Fault> {
+fn describe_value(line: &mut Line, kind: Kind, value: &Value) -> Result<(), Fault> {
     if kind != Kind::Null {
         line.word(Part::Kind, kind.name())?;
     }
     line.space()?;
     line.paint(Part::Text)?;
-    push_value(alloc, &mut line.text, value)?;
+    push_value(&mut line.text, &mut line.shown, value)?;
     line.end()?;
     match value {
         Value::Binary(bytes) => push_printable(line, bytes.as_inner())?,

@@ -3,7 +3,7 @@
 use crate::fault::{Fault, Found};
 use crate::item::{Item, ItemKind};
 use crate::json::{Json, push_json_fault};
-use crate::level::LevelKind;
+use crate::level::{Level, LevelKind};
 use crate::line::Line;
 use crate::marks::Marks;
 use crate::options::{Form, Options};
@@ -160,6 +160,8 @@ impl Dumper {
         }
         let levels = self.scanner.levels();
         let in_payload = self.scanner.is_in_payload();
+        let is_text_of_frame = self.options.form == Form::Text && is_in_frame(levels);
+        let base = self.selected.unwrap_or(usize::from(is_text_of_frame));
         match self.options.form {
             Form::Tree => push_line(
                 self.alloc,
@@ -170,39 +172,27 @@ impl Dumper {
                 self.marks.found(),
                 &self.options,
             )?,
-            Form::Text => {
-                let base = self.selected.unwrap_or(usize::from(self.is_in_frame()));
-                push_text(
-                    self.alloc,
-                    &mut self.line,
-                    item,
-                    base,
-                    levels,
-                    bytes,
-                    in_payload,
-                )?;
-            }
+            Form::Text => push_text(
+                self.alloc,
+                &mut self.line,
+                item,
+                base,
+                levels,
+                bytes,
+                in_payload,
+            )?,
             Form::Json if self.is_muted => {
                 self.is_muted = item.kind != ItemKind::Closes(LevelKind::Frame);
             }
             Form::Json => {
-                let base = self.selected.unwrap_or(0);
-                self.json
-                    .add(&mut self.line.text, item, base, levels, bytes, in_payload)?;
+                let text = &mut self.line.text;
+                self.json.add(text, item, base, levels, bytes, in_payload)?;
             }
         }
         if selector.is_some() && item.ends_value(in_payload) && self.selected == Some(item.depth) {
             self.selected = None;
         }
         Ok(())
-    }
-
-    // Whether a frame is open.
-    fn is_in_frame(&self) -> bool {
-        match self.scanner.levels().first() {
-            Some(level) => level.kind == LevelKind::Frame,
-            None => false,
-        }
     }
 
     // Whether the item is in a value that is selected.
@@ -280,5 +270,13 @@ impl Dumper {
         self.marks.reset();
         self.selected = None;
         self.scanner.recover() && !is_end
+    }
+}
+
+// Whether a frame is open.
+fn is_in_frame(levels: &[Level]) -> bool {
+    match levels.first() {
+        Some(level) => level.kind == LevelKind::Frame,
+        None => false,
     }
 }

@@ -42,6 +42,8 @@ fn color_of(part: Part) -> &'static str {
 #[derive(Drop)]
 pub(crate) struct Line {
     pub(crate) text: String,
+    // The text of a value, before it is escaped.
+    pub(crate) shown: String,
     color: bool,
     // Whether the next word has no space before it.
     is_first: bool,
@@ -52,6 +54,7 @@ impl Line {
     pub(crate) fn new(alloc: Global, color: bool) -> Line {
         Line {
             text: String::new(alloc),
+            shown: String::new(alloc),
             color,
             is_first: true,
         }

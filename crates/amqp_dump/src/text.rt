@@ -26,7 +26,7 @@ pub(crate) fn push_text(
         line.push(separator(outer))?;
     }
     match item.kind {
-        ItemKind::Described(_) => push_descriptor(alloc, &mut line.text, bytes)?,
+        ItemKind::Described(_) => push_descriptor(alloc, line, bytes)?,
         ItemKind::Opens(Kind::Map, _, _) => line.push("{")?,
         ItemKind::Opens(_, _, _) => line.push("[")?,
         ItemKind::Closes(LevelKind::Compound(Kind::Map)) => line.push("}")?,
@@ -34,15 +34,15 @@ pub(crate) fn push_text(
         ItemKind::Constructor => line.push(" -> ")?,
         ItemKind::Scalar(_, code) => {
             let value = value_of(alloc, bytes, code, is_in_array(levels))?;
-            push_value(alloc, &mut line.text, &value)?;
+            push_value(&mut line.text, &mut line.shown, &value)?;
         }
         ItemKind::Long(kind, _) => {
             let value = first_payload(alloc, kind, levels, bytes)?;
-            push_piece(alloc, &mut line.text, kind, &value, true, !in_payload)?;
+            push_piece(line, kind, &value, true, !in_payload)?;
         }
         ItemKind::More(kind, _) => {
             let value = piece_value(alloc, kind, bytes)?;
-            push_piece(alloc, &mut line.text, kind, &value, false, !in_payload)?;
+            push_piece(line, kind, &value, false, !in_payload)?;
         }
         ItemKind::Repeats(_)
         | ItemKind::Protocol
@@ -73,8 +73,7 @@ fn separator(outer: &[Level]) -> &'static str {
 // Appends the text of a piece of a payload: what begins it if it is the first, and what ends it if it
 // is the last.
 fn push_piece(
-    alloc: Global,
-    text: &mut String,
+    line: &mut Line,
     kind: Kind,
     value: &Value,
     is_first: bool,
@@ -85,13 +84,14 @@ fn push_piece(
         Kind::Symbol => (":", ""),
         _ => ("0x[", "]"),
     };
-    let whole = value.to_string(alloc)?;
-    let mut part = whole.as_str();
+    line.shown.clear();
+    write!(line.shown, "{value}")?;
+    let mut part = line.shown.as_str();
     if !is_first {
         part = part.strip_prefix(begin).unwrap_or(part);
     }
     if !is_last {
         part = part.strip_suffix(end).unwrap_or(part);
     }
-    push_safe(text, part)
+    push_safe(&mut line.text, part)
 }
