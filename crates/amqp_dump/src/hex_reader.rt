@@ -1,5 +1,7 @@
 //! Reads bytes that are written in hexadecimal.
 
+ghost use Rattle.std.specs.Prelude.{◌≤◌, length};
+
 use std::io;
 
 /// A reader of the bytes that another reader has in hexadecimal.
@@ -57,7 +59,9 @@ impl<R: io::Read> HexReader<R> {
     }
 
     // Puts the bytes that end in `characters` to the start of `buf`, and returns how many.
-    fn decode(&mut self, characters: &[u8], buf: &mut [u8]) -> usize {
+    fn decode(&mut self, characters: &[u8], buf: &mut [u8]) -> usize
+        ensures { result ≤ length buf.new }
+    {
         let mut count: usize = 0;
         for character in characters {
             if self.wrong {
