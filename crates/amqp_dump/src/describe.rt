@@ -6,7 +6,7 @@ use crate::kinds::{Kind, kind_of};
 use crate::level::{Level, LevelKind};
 use crate::line::{Line, Part};
 use crate::names;
-use crate::texts::{first_payload, push_value, value_of};
+use crate::texts::{first_payload, has_unprintable, push_value, value_of};
 use amqp_value::Value;
 use std::alloc::Global;
 use std::num::{f32_from_bits_with_nan, f64_from_bits_with_nan};
@@ -162,8 +162,7 @@ fn describe_value(line: &mut Line, kind: Kind, value: &Value) -> Result<(), Faul
 
 // Appends bytes as text, if they are printable characters of ASCII.
 fn push_printable(line: &mut Line, bytes: &[u8]) -> Result<(), Fault> {
-    let is_printable = bytes.iter().all(|byte| (b' '..=b'~').contains(byte));
-    if !is_printable || bytes.is_empty() {
+    if has_unprintable(bytes) || bytes.is_empty() {
         return Ok(());
     }
     if let Ok(text) = std::str::from_utf8(bytes) {

@@ -1,6 +1,7 @@
 //! The texts of scalars.
 
-ghost use Rattle.std.specs.Prelude.{◌≡◌, ◌++◌, ◌∷◌, IfOk, OnOk, string_bytes, if◌then◌else◌};
+ghost use Rattle.std.specs.Prelude.{◌≡◌, ◌++◌, ◌∷◌, IfOk, OnOk, [], false, string_bytes, if◌then◌else◌};
+ghost use Rattle.std.specs.List.{flat_map};
 ghost use Rattle.amqp_decode.specs.Spells.{Spells};
 ghost use Rattle.amqp_value.specs.Text.{text_of as shown};
 ghost use Rattle.amqp_value.specs.TreeOf.{tree_of};
@@ -123,7 +124,38 @@ pub(crate) fn push_value(text: &mut String, shown: &mut String, value: &Value) -
 }
 
 /// Appends a text with the characters escaped that a terminal takes as commands.
+#[tactic(auto, using(crate::proofs::Printable::safe_same))]
 pub(crate) fn push_safe(text: &mut String, part: &str) -> Result<(), Fault>
+    ensures text { OnOk result
+        (string_bytes text.new ≡ string_bytes text.old ++ safe part.now) }
+{
+    if part.is_ascii() && !has_unprintable(part.as_bytes()) {
+        text.push_str(part)?;
+        Ok(())
+    } else {
+        push_each_safe(text, part)
+    }
+}
+
+/// Returns whether a byte is no printable character of ASCII.
+pub(crate) fn has_unprintable(bytes: &[u8]) -> bool
+    ensures { result ≡ false → flat_map safe_char bytes.now ≡ bytes.now }
+{
+    let mut found = false;
+    for index in 0..bytes.len() {
+        found = found | is_unprintable(bytes[index]);
+    }
+    found
+}
+
+fn is_unprintable(byte: u8) -> bool
+    ensures { result ≡ false → safe_char byte ≡ byte ∷ [] }
+{
+    (byte < 32) | (126 < byte)
+}
+
+// Like `push_safe`, one character after another.
+fn push_each_safe(text: &mut String, part: &str) -> Result<(), Fault>
     ensures text { OnOk result
         (string_bytes text.new ≡ string_bytes text.old ++ safe part.now) }
 {

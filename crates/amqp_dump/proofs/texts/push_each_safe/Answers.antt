@@ -2,7 +2,7 @@ use Rattle.std.proofs.Common.{List, ℕ, ◌++◌, flat_map, sym, ap, ◌∙◌,
 use Rattle.std.proofs.lemmas.Iterator.{YieldsList-from_chars}
 use Rattle.std.proofs.lemmas.Iterator.Consumers.{YieldsList-end}
 use Rattle.amqp_dump.specs.Safe.{safe_char}
-use Rattle.amqp_dump.proofs.texts.push_safe.Goals as goal
+use Rattle.amqp_dump.proofs.texts.push_each_safe.Goals as goal
 
 pub returns : goal.returns
 returns c =
