@@ -1,10 +1,8 @@
 //! Errors and the states of a delivery.
-//!
-//! For readers who need enums that are one of several composites.
 
-ghost use Rattle.example_composites.specs.Outcomes.{of_accepted, of_error, of_modified, of_outcome, of_received, of_rejected, of_released, of_state};
+ghost use Rattle.tool_jobs.specs.Outcomes.{of_accepted, of_error, of_modified, of_outcome, of_received, of_rejected, of_released, of_state};
 
-use crate::values::FieldMap;
+use crate::written::values::FieldMap;
 use amqp_data::Symbol;
 use amqp_ser::{ListOf, Serialize, SerializeCompounds, Serializer, fields};
 

@@ -1,17 +1,15 @@
 //! The performatives that deliver messages.
-//!
-//! For readers who need described lists with required and optional fields.
 
 ghost use Rattle.std.specs.Prelude.{◌∷◌, []};
 ghost use Rattle.amqp_ser.specs.Tree.{code};
 ghost use Rattle.amqp_ser.specs.Words.{required_value, optional_value, short_composite, of_binary, of_bool, of_u32};
-ghost use Rattle.example_composites.specs.Outcomes.{of_state};
-ghost use Rattle.example_composites.specs.Restricted.{of_receiver_mode, of_role};
-ghost use Rattle.example_composites.specs.Values.{of_fields};
+ghost use Rattle.tool_jobs.specs.Outcomes.{of_state};
+ghost use Rattle.tool_jobs.specs.Restricted.{of_receiver_mode, of_role};
+ghost use Rattle.tool_jobs.specs.Values.{of_fields};
 
-use crate::outcomes::DeliveryState;
-use crate::restricted::{ReceiverSettleMode, Role};
-use crate::values::{
+use crate::written::outcomes::DeliveryState;
+use crate::written::restricted::{ReceiverSettleMode, Role};
+use crate::written::values::{
     DeliveryNumber, DeliveryTag, FieldMap, Handle, MessageFormat, SequenceNumber, TransferNumber,
 };
 use amqp_ser::{ListOf, Serialize, SerializeCompounds, Serializer, fields};
