@@ -4,7 +4,6 @@
 //! that fails prints its name and the result.
 
 mod bench;
-mod composites;
 mod derived;
 mod reading;
 

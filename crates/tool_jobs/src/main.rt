@@ -30,6 +30,7 @@ mod sections;
 mod send;
 mod show;
 mod texts;
+mod written;
 
 use digest::Digest;
 use random::Random;

@@ -1,0 +1,15 @@
+//! Messages: their sections one after another (AMQP 1.0 part 3, section 3.2).
+
+mod content;
+mod encoded;
+mod error;
+mod lazy;
+mod read;
+mod whole;
+mod write;
+
+pub use content::Body;
+pub use encoded::{EncodedSection, EncodedSections, SectionKind, sections};
+pub use error::MessageError;
+pub use lazy::LazyMessage;
+pub use whole::Message;
