@@ -13,7 +13,7 @@ mod results;
 mod sequence;
 mod struct_variant;
 mod structs;
-mod tuple_struct;
+pub(crate) mod tuple_struct;
 mod variant;
 
 pub use map::SerializeMap;

@@ -60,7 +60,7 @@
 //! | the same | `ListOf::serialize`, `MapOf::serialize`, `SymbolMapOf::serialize`, `VariantOf::serialize` |
 //! | the same | `Fields::feed`, `Fields::feed_named`, `Field::feed`, `Field::feed_named` |
 //! | the same | `OptionalField::feed`, `OptionalField::feed_named` |
-//! | the same | `feed_part`, `feed_entry`, `feed_descriptor`, `feed_single`, `feed_any`, `open_body`, `end_fields` |
+//! | the same | `feed_part`, `feed_entry`, `feed_descriptor`, `feed_single`, `feed_any`, `feed_tuple_field`, `open_body`, `end_fields` |
 //! | none, since each makes one call of the serializer or of the line above | `SeqSerializer::end`, `MapSerializer::end` |
 //! | the same | `StructSerializer::end`, `TupleStructSerializer::end`, `VariantSerializer::end`, `StructVariantSerializer::end` |
 //! | accessors | `SeqAccess::new`, `SeqAccess::next_element`, `SeqAccess::next_element_seed`, `MapAccess::new` |

@@ -3,6 +3,7 @@
 ghost use Rattle.std.specs.Prelude.{◌≡◌, [], IfOk, IfErr, ◌||◌, not, false};
 ghost use mir.Syntax.{named};
 ghost use Rattle.std.specs.Borrow.{Lends, sem};
+ghost use Rattle.amqp_ser.specs.StructFeeding.{TupleFieldStep};
 ghost use Rattle.amqp_ser.specs.OpenStructs.{tuple_struct_reference, tuple_struct_with_serializer, is_single, lacks_descriptor, is_open, TupleStructFieldStep, EndsTupleStruct};
 
 use super::body::{end_fields, open_body};
@@ -11,6 +12,45 @@ use super::feed::feed_part;
 use crate::serialize::Serialize;
 use crate::serializer::Serializer;
 use crate::struct_encoding::StructEncoding;
+
+/// Serializes a field, or the descriptor, of a tuple struct: of one whose body is a single field,
+/// that lacks its descriptor, or that has a field or is a list that has been open from the start.
+///
+/// # Errors
+/// Returns the serializer's error for the field or the descriptor. Always returns an error if the
+/// descriptor is neither a ulong nor a symbol. Returns a misuse error for a second field of a single
+/// value. The compound is then unchanged.
+///
+/// # Example
+/// `true` appends `41` to a list that has been open from the start.
+#[tactic(auto, unfolding(crate::specs::Structs::Stands))]
+#[inline(always)]
+pub fn feed_tuple_field<S: Serializer, T: Serialize>(
+    serializer: &mut S,
+    compound: &mut S::Open,
+    single: bool,
+    wants_descriptor: bool,
+    opened: bool,
+    value: &T,
+) -> Result<(), S::Error>
+    ensures { TupleFieldStep S.permits S.has S.is_misuse_error single wants_descriptor opened
+        (T.tree value.now) serializer.old compound.old result serializer.new compound.new }
+{
+    if wants_descriptor {
+        return feed_descriptor(serializer, compound, value);
+    }
+    if opened {
+        if single {
+            return Err(serializer.misuse_error(compound));
+        }
+        return feed_part(serializer, compound, value);
+    }
+    if single {
+        feed_single(serializer, compound, value)
+    } else {
+        open_body(serializer, compound, false, "", value)
+    }
+}
 
 /// A tuple struct that is being serialized: a list of its fields, or the one field itself. The name
 /// of the struct determines whether the first field is the descriptor.
@@ -112,23 +152,19 @@ impl<'a, S: Serializer> SerializeTupleStruct<'a, S> {
         ensures same { (tuple_struct_reference self.new).ghost_name
             ≡ (tuple_struct_reference self.old).ghost_name }
     {
+        feed_tuple_field(
+            &mut *self.serializer,
+            &mut self.compound,
+            self.single,
+            self.wants_descriptor,
+            self.opened,
+            value,
+        )?;
         if self.wants_descriptor {
-            feed_descriptor(&mut *self.serializer, &mut self.compound, value)?;
             self.wants_descriptor = false;
-            return Ok(());
-        }
-        if self.opened {
-            if self.single {
-                return Err(self.serializer.misuse_error(&mut self.compound));
-            }
-            return feed_part(&mut *self.serializer, &mut self.compound, value);
-        }
-        if self.single {
-            feed_single(&mut *self.serializer, &mut self.compound, value)?;
         } else {
-            open_body(&mut *self.serializer, &mut self.compound, false, "", value)?;
+            self.opened = true;
         }
-        self.opened = true;
         Ok(())
     }
 

@@ -9,7 +9,7 @@ use crate::serializer::Serializer;
 use amqp_data::Error;
 use amqp_ser::{
     Compound, CompoundKind, Serialize, Serializer as _, StructEncoding, end_fields,
-    feed_descriptor, feed_part, feed_single, open_body,
+    feed_tuple_field,
 };
 use amqp_value::Value;
 use std::fmt;
@@ -165,23 +165,19 @@ impl<'a> TupleStructSerializer<'a> {
         ensures same { (tuple_struct_reference self.new).ghost_name
             ≡ (tuple_struct_reference self.old).ghost_name }
     {
+        feed_tuple_field(
+            &mut *self.serializer,
+            &mut self.compound,
+            self.single,
+            self.wants_descriptor,
+            self.opened,
+            value,
+        )?;
         if self.wants_descriptor {
-            feed_descriptor(&mut *self.serializer, &mut self.compound, value)?;
             self.wants_descriptor = false;
-            return Ok(());
-        }
-        if self.opened {
-            if self.single {
-                return Err(self.serializer.misuse_error(&mut self.compound));
-            }
-            return feed_part(&mut *self.serializer, &mut self.compound, value);
-        }
-        if self.single {
-            feed_single(&mut *self.serializer, &mut self.compound, value)?;
         } else {
-            open_body(&mut *self.serializer, &mut self.compound, false, "", value)?;
+            self.opened = true;
         }
-        self.opened = true;
         Ok(())
     }
 
