@@ -39,6 +39,10 @@ PartsOf parts Memory P (Err e) = Refuses Memory (λ v. P (parts v)) e
 abbrev pub RestoresValues : {V T E : Type 0} → (V → T) → (V → Tree) → (T → Type 0) → (T → T → Type 0) → (E → Type 0) → Tree → Result T E → Type 0
 RestoresValues {V} parts image P S Memory t r = (v : V) → P (parts v) → t ≡ image v → MatchResult r (λ y. S y (parts v)) Memory
 
+-- Like `Restores`, where the image, `P` and `S` are of the parts of a value.
+abbrev pub RestoresBuilt : {T V E : Type 0} → (T → V) → (V → Tree) → (V → Type 0) → (V → V → Type 0) → (E → Type 0) → Tree → Result T E → Type 0
+RestoresBuilt {T} parts image P S Memory t r = (x : T) → P (parts x) → t ≡ image (parts x) → MatchResult r (λ y. S (parts y) (parts x)) Memory
+
 -- The value of the first key with this name is taken; if there is none, the result is `None`.
 abbrev pub TakesNamed : {D : Type 0} → (D → Tree) → List ℕ → List (Tree × Tree) → List (Tree × Tree) → Option D → Type 0
 TakesNamed value n old new None = (value_at n old ≡ None) × (new ≡ without n old)

@@ -23,6 +23,12 @@ PartsReading {T} parts reads image short restorable same t y =
     reads t y × ((x : T) → restorable (parts x) → t ≡ image (parts x) → same y (parts x))
     × ((x : T) → restorable (parts x) → t ≡ short (parts x) → same y (parts x))
 
+-- Like `PartsReading`, for the value that has these parts.
+abbrev pub BuiltReading : {T V : Type 0} → (T → V) → (Tree → V → Type 0) → (V → Tree) → (V → Tree) → (V → Type 0) → (V → V → Type 0) → Tree → T → Type 0
+BuiltReading {T} parts reads image short restorable same t y =
+    reads t (parts y) × ((x : T) → restorable (parts x) → t ≡ image (parts x) → same (parts y) (parts x))
+    × ((x : T) → restorable (parts x) → t ≡ short (parts x) → same (parts y) (parts x))
+
 -- The bytes start with an encoded value, with at most `depth` levels inside, that gives y. `rest`
 -- follows it.
 abbrev pub ReadsPrefix : {T : Type 0} → (Tree → T → Type 0) → ℕ → List ℕ → List ℕ → T → Type 0

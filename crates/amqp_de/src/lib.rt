@@ -2,6 +2,7 @@
 #![tactic(auto)]
 
 mod access;
+mod built;
 mod calls;
 mod composite;
 mod composites;
@@ -30,6 +31,10 @@ mod unwritable;
 mod visitor;
 
 pub use access::{ContentOf, ElementsOf, EntriesOf, EnumAccessOf};
+pub use built::{
+    FromParts, build, build_composite, build_composite_encoded, build_composite_map, build_encoded,
+    build_fields_map, build_named, build_named_encoded, build_named_map,
+};
 pub use composite::{read_composite, read_named};
 pub use composites::{
     Alternatives, Composite, read_alternatives, read_composite_type, read_no_fields,
