@@ -35,7 +35,7 @@ def match_self(arms):
 
 
 def deserialize(t, members, body, allocates, more="", encoded=""):
-    encoded = read_encoded(t.name, encoded) if encoded else ""
+    encoded = read_encoded(t, encoded) if encoded else ""
     return f"impl Deserialize for {t.name} {{\n" + ghosts(members, more) + \
         f'    fn deserialize<D: Deserializer>({"" if allocates else "_"}alloc: Global, deserializer: D) -> Result<{t.name}, D::Error> {{\n' \
         f"{body}    }}\n{encoded}}}\n"

@@ -105,7 +105,7 @@ def read_bytes(t):
     elif t.symbol:
         call, said = "read_named_encoded", f'"{t.symbol}", '
     body = f"        let seed = {seed(t)};\n" + build(t, f"{call}::<{t.name}, _>(alloc, code, input, depth, {said}seed)?")
-    return read_encoded(t.name, body, method)
+    return read_encoded(t, body, method)
 
 
 def composite(t):
@@ -126,7 +126,7 @@ def composite(t):
         "restorable": of("restorable"), "same": of("same")})
     return out + f"    fn deserialize<D: Deserializer>(alloc: Global, deserializer: D) -> Result<{t.name}, D::Error> {{\n" \
         f"        read_composite_type::<{t.name}, D>(alloc, deserializer)\n    }}\n" + \
-        read_encoded(t.name, f"        read_composite_type_encoded::<{t.name}>(alloc, code, input, depth)\n") + "}\n"
+        read_encoded(t, f"        read_composite_type_encoded::<{t.name}>(alloc, code, input, depth)\n") + "}\n"
 
 
 def deserialize(t):
@@ -194,7 +194,7 @@ def newtype(t):
             f"    fn deserialize<D: Deserializer>(alloc: Global, deserializer: D) -> Result<{n}, D::Error> {{\n"
             f"        match <{f.type} as Deserialize>::deserialize(alloc, deserializer) {{\n"
             f"            Ok(value) => Ok({made}),\n            Err(error) => Err(error),\n        }}\n    }}\n" +
-            read_encoded(n, f"        match <{f.type} as Deserialize>::read_encoded(alloc, code, input, depth) {{\n"
+            read_encoded(t, f"        match <{f.type} as Deserialize>::read_encoded(alloc, code, input, depth) {{\n"
                          f"            Ok(value) => Ok({made}),\n            Err(error) => Err(error),\n        }}\n") + "}\n")
     if t.round_trips:
         out.append(f"impl RoundTrip for {n} {{\n    fn law() {{\n        <{f.type} as RoundTrip>::law();\n    }}\n}}\n")

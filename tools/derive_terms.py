@@ -117,6 +117,8 @@ def take(fields, call, indent="        "):
     return out or f"{indent}let () = {call};\n"
 
 
-def read_encoded(name, body, method="read_encoded"):
-    """The method that reads a value from its bytes."""
-    return f"\n    fn {method}(alloc: Global, code: u8, input: &mut &[u8], depth: u16) -> Result<{name}, GaveUp> {{\n{body}    }}\n"
+def read_encoded(t, body, method="read_encoded"):
+    """The method that reads a value from its bytes in one pass, unless the provided one is to stay."""
+    if not t.one_pass:
+        return ""
+    return f"\n    fn {method}(alloc: Global, code: u8, input: &mut &[u8], depth: u16) -> Result<{t.name}, GaveUp> {{\n{body}    }}\n"

@@ -5,7 +5,7 @@ import re
 STRUCT_ENCODINGS = ("list", "map", "basic")
 ENUM_ENCODINGS = ("described", "restricted", "scalar", "index")
 SOURCES = ("bool", "u8", "u16", "u32", "u64", "String", "Symbol")
-FLAGS = ("full", "by_name", "map_key", "others", "no_round_trip", "write_only", "read_only")
+FLAGS = ("full", "by_name", "map_key", "others", "no_one_pass", "no_round_trip", "write_only", "read_only")
 KEYS = ("encoding", "code", "name", "rename_all", "source", "values")
 DEFAULTED = ("bool", "u8", "u16", "u32", "u64")
 SCALARS = DEFAULTED + ("i8", "i16", "i32", "i64", "char", "F32Bits", "F64Bits", "Dec32", "Dec64", "Dec128", "Timestamp", "Uuid", "ByteBuf", "String", "Symbol")
@@ -63,6 +63,7 @@ class Type:
         self.reads, self.writes = "write_only" not in flags, "read_only" not in flags
         self.round_trips = self.reads and self.writes and "no_round_trip" not in flags
         # a list without the absent fields at its end, a map without the absent fields
+        self.one_pass = "no_one_pass" not in flags
         self.short = self.encoding in ("list", "map") and "full" not in flags
         # read after its code or its name: the trait Composite
         self.composite = bool(self.code and self.symbol) and self.encoding in ("list", "basic")

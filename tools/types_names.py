@@ -58,7 +58,8 @@ The crate [amqp_types](src/lib.rt) has these types, from the crates below it, wh
 
 
 def page(table):
-    out = PAGE
+    quick = ", ".join(f"`{t.rust}`" for t in table.types.values() if t.one_pass)
+    out = PAGE + f"\n`from_slice` reads {quick}, the choices and the identifiers in [one pass](../../docs/TYPES.md#from-bytes-in-one-pass), the others, and what contains one of them, through an untyped value.\n"
     for part, name in PARTS.items():
         out += f"\n## Part {part}: {name}\n"
         types = sorted((t for t in table.types.values() if t.part == part), key=by_section)

@@ -8,7 +8,7 @@ use serde_amqp::primitives::{OrderedMap, Symbol};
 ///
 /// # Encoding
 /// A list of the fields, described by the code 0x23.
-// amqp: encoding = "list", code = 0x23, name = "amqp:received:list", rename_all = "kebab-case"
+// amqp: encoding = "list", code = 0x23, name = "amqp:received:list", rename_all = "kebab-case", no_one_pass
 #[derive(Debug, PartialEq, Drop)]
 pub struct Received {
     /// The section that was received in part, from 0.
@@ -29,7 +29,7 @@ pub struct Accepted;
 ///
 /// # Encoding
 /// A list of the fields, described by the code 0x25.
-// amqp: encoding = "list", code = 0x25, name = "amqp:rejected:list", rename_all = "kebab-case"
+// amqp: encoding = "list", code = 0x25, name = "amqp:rejected:list", rename_all = "kebab-case", no_one_pass
 #[derive(Debug, PartialEq, Drop)]
 pub struct Rejected {
     /// Why the message was rejected.
@@ -40,7 +40,7 @@ pub struct Rejected {
 ///
 /// # Encoding
 /// A list of the fields, described by the code 0x26.
-// amqp: encoding = "list", code = 0x26, name = "amqp:released:list"
+// amqp: encoding = "list", code = 0x26, name = "amqp:released:list", no_one_pass
 #[derive(Debug, PartialEq, Drop)]
 pub struct Released;
 
@@ -48,7 +48,7 @@ pub struct Released;
 ///
 /// # Encoding
 /// A list of the fields, described by the code 0x27.
-// amqp: encoding = "list", code = 0x27, name = "amqp:modified:list", rename_all = "kebab-case"
+// amqp: encoding = "list", code = 0x27, name = "amqp:modified:list", rename_all = "kebab-case", no_one_pass
 #[derive(Debug, PartialEq, Drop)]
 pub struct Modified {
     /// Whether the delivery counts as failed.
@@ -143,27 +143,6 @@ impl Composite for Received {
             section_offset,
         })
     }
-
-    fn read_body_encoded(
-        alloc: Global,
-        code: u8,
-        input: &mut &[u8],
-        depth: u16,
-    ) -> Result<Received, GaveUp> {
-        let seed = ListSeed(named! { "section-number", "section-offset" });
-        let FieldValues {
-            value: section_number,
-            rest,
-        } = read_parts_encoded::<Received, _>(alloc, code, input, depth, seed)?;
-        let FieldValues {
-            value: section_offset,
-            rest: (),
-        } = rest;
-        Ok(Received {
-            section_number,
-            section_offset,
-        })
-    }
 }
 
 impl Deserialize for Received {
@@ -180,15 +159,6 @@ impl Deserialize for Received {
 
     fn deserialize<D: Deserializer>(alloc: Global, deserializer: D) -> Result<Received, D::Error> {
         read_composite_type::<Received, D>(alloc, deserializer)
-    }
-
-    fn read_encoded(
-        alloc: Global,
-        code: u8,
-        input: &mut &[u8],
-        depth: u16,
-    ) -> Result<Received, GaveUp> {
-        read_composite_type_encoded::<Received>(alloc, code, input, depth)
     }
 }
 
@@ -367,20 +337,6 @@ impl Composite for Rejected {
         } = read::<Rejected, D, _>(alloc, deserializer, ListSeed(named! { "error"? }))?;
         Ok(Rejected { error })
     }
-
-    fn read_body_encoded(
-        alloc: Global,
-        code: u8,
-        input: &mut &[u8],
-        depth: u16,
-    ) -> Result<Rejected, GaveUp> {
-        let seed = ListSeed(named! { "error"? });
-        let FieldValues {
-            value: error,
-            rest: (),
-        } = read_parts_encoded::<Rejected, _>(alloc, code, input, depth, seed)?;
-        Ok(Rejected { error })
-    }
 }
 
 impl Deserialize for Rejected {
@@ -397,15 +353,6 @@ impl Deserialize for Rejected {
 
     fn deserialize<D: Deserializer>(alloc: Global, deserializer: D) -> Result<Rejected, D::Error> {
         read_composite_type::<Rejected, D>(alloc, deserializer)
-    }
-
-    fn read_encoded(
-        alloc: Global,
-        code: u8,
-        input: &mut &[u8],
-        depth: u16,
-    ) -> Result<Rejected, GaveUp> {
-        read_composite_type_encoded::<Rejected>(alloc, code, input, depth)
     }
 }
 
@@ -470,17 +417,6 @@ impl Composite for Released {
         let () = read_no_fields::<D>(deserializer)?;
         Ok(Released)
     }
-
-    fn read_body_encoded(
-        alloc: Global,
-        code: u8,
-        input: &mut &[u8],
-        depth: u16,
-    ) -> Result<Released, GaveUp> {
-        let seed = ListSeed(());
-        let () = read_parts_encoded::<Released, _>(alloc, code, input, depth, seed)?;
-        Ok(Released)
-    }
 }
 
 impl Deserialize for Released {
@@ -497,15 +433,6 @@ impl Deserialize for Released {
 
     fn deserialize<D: Deserializer>(alloc: Global, deserializer: D) -> Result<Released, D::Error> {
         read_composite_type::<Released, D>(alloc, deserializer)
-    }
-
-    fn read_encoded(
-        alloc: Global,
-        code: u8,
-        input: &mut &[u8],
-        depth: u16,
-    ) -> Result<Released, GaveUp> {
-        read_composite_type_encoded::<Released>(alloc, code, input, depth)
     }
 }
 
@@ -606,34 +533,6 @@ impl Composite for Modified {
             message_annotations,
         })
     }
-
-    fn read_body_encoded(
-        alloc: Global,
-        code: u8,
-        input: &mut &[u8],
-        depth: u16,
-    ) -> Result<Modified, GaveUp> {
-        let seed = ListSeed(
-            named! { "delivery-failed"?, "undeliverable-here"?, "message-annotations"? },
-        );
-        let FieldValues {
-            value: delivery_failed,
-            rest,
-        } = read_parts_encoded::<Modified, _>(alloc, code, input, depth, seed)?;
-        let FieldValues {
-            value: undeliverable_here,
-            rest,
-        } = rest;
-        let FieldValues {
-            value: message_annotations,
-            rest: (),
-        } = rest;
-        Ok(Modified {
-            delivery_failed,
-            undeliverable_here,
-            message_annotations,
-        })
-    }
 }
 
 impl Deserialize for Modified {
@@ -650,15 +549,6 @@ impl Deserialize for Modified {
 
     fn deserialize<D: Deserializer>(alloc: Global, deserializer: D) -> Result<Modified, D::Error> {
         read_composite_type::<Modified, D>(alloc, deserializer)
-    }
-
-    fn read_encoded(
-        alloc: Global,
-        code: u8,
-        input: &mut &[u8],
-        depth: u16,
-    ) -> Result<Modified, GaveUp> {
-        read_composite_type_encoded::<Modified>(alloc, code, input, depth)
     }
 }
 

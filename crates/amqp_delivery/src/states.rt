@@ -8,7 +8,7 @@ use amqp_common::Unknown;
 ///
 /// # Encoding
 /// The composite of the variant.
-// amqp: encoding = "described", others
+// amqp: encoding = "described", others, no_one_pass
 #[derive(Debug, PartialEq, Drop)]
 pub enum Outcome {
     /// The message was processed.
@@ -29,7 +29,7 @@ pub enum Outcome {
 ///
 /// # Encoding
 /// The composite of the variant.
-// amqp: encoding = "described", others
+// amqp: encoding = "described", others, no_one_pass
 #[derive(Debug, PartialEq, Drop)]
 pub enum DeliveryState {
     /// How much of a message has been received.
@@ -52,9 +52,8 @@ pub enum DeliveryState {
 
 // amqp: the impls below are written by tools/derive from the annotations above
 use serde_amqp::derive::{
-    Alternatives, Deserialize, Deserializer, Either, GaveUp, Global, Record, RoundTrip,
+    Alternatives, Deserialize, Deserializer, Either, Global, Record, RoundTrip,
     RoundTripAlternatives, Serialize, Serializer, laws, read_alternatives,
-    read_alternatives_encoded,
 };
 
 impl Record for Outcome {
@@ -97,28 +96,6 @@ impl Deserialize for Outcome {
 
     fn deserialize<D: Deserializer>(alloc: Global, deserializer: D) -> Result<Outcome, D::Error> {
         match read_alternatives::<Outcome, D>(alloc, deserializer)? {
-            Either::This(value) => Ok(Outcome::Accepted(value)),
-            Either::Other(Either::This(value)) => Ok(Outcome::Rejected(value)),
-            Either::Other(Either::Other(Either::This(value))) => Ok(Outcome::Released(value)),
-            Either::Other(Either::Other(Either::Other(Either::This(value)))) => Ok(
-                Outcome::Modified(value),
-            ),
-            Either::Other(Either::Other(Either::Other(Either::Other(Either::This(value))))) => Ok(
-                Outcome::Declared(value),
-            ),
-            Either::Other(Either::Other(Either::Other(Either::Other(Either::Other(value))))) => Ok(
-                Outcome::Other(value),
-            ),
-        }
-    }
-
-    fn read_encoded(
-        alloc: Global,
-        code: u8,
-        input: &mut &[u8],
-        depth: u16,
-    ) -> Result<Outcome, GaveUp> {
-        match read_alternatives_encoded::<Outcome>(alloc, code, input, depth)? {
             Either::This(value) => Ok(Outcome::Accepted(value)),
             Either::Other(Either::This(value)) => Ok(Outcome::Rejected(value)),
             Either::Other(Either::Other(Either::This(value))) => Ok(Outcome::Released(value)),
@@ -195,40 +172,6 @@ impl Deserialize for DeliveryState {
         deserializer: D,
     ) -> Result<DeliveryState, D::Error> {
         match read_alternatives::<DeliveryState, D>(alloc, deserializer)? {
-            Either::This(value) => Ok(DeliveryState::Received(value)),
-            Either::Other(Either::This(value)) => Ok(DeliveryState::Accepted(value)),
-            Either::Other(Either::Other(Either::This(value))) => Ok(DeliveryState::Rejected(value)),
-            Either::Other(Either::Other(Either::Other(Either::This(value)))) => Ok(
-                DeliveryState::Released(value),
-            ),
-            Either::Other(Either::Other(Either::Other(Either::Other(Either::This(value))))) => Ok(
-                DeliveryState::Modified(value),
-            ),
-            Either::Other(
-                Either::Other(Either::Other(Either::Other(Either::Other(Either::This(value))))),
-            ) => Ok(DeliveryState::Declared(value)),
-            Either::Other(
-                Either::Other(
-                    Either::Other(Either::Other(Either::Other(Either::Other(Either::This(value))))),
-                ),
-            ) => Ok(DeliveryState::TransactionalState(value)),
-            Either::Other(
-                Either::Other(
-                    Either::Other(
-                        Either::Other(Either::Other(Either::Other(Either::Other(value)))),
-                    ),
-                ),
-            ) => Ok(DeliveryState::Other(value)),
-        }
-    }
-
-    fn read_encoded(
-        alloc: Global,
-        code: u8,
-        input: &mut &[u8],
-        depth: u16,
-    ) -> Result<DeliveryState, GaveUp> {
-        match read_alternatives_encoded::<DeliveryState>(alloc, code, input, depth)? {
             Either::This(value) => Ok(DeliveryState::Received(value)),
             Either::Other(Either::This(value)) => Ok(DeliveryState::Accepted(value)),
             Either::Other(Either::Other(Either::This(value))) => Ok(DeliveryState::Rejected(value)),

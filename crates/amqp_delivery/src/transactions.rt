@@ -8,7 +8,7 @@ use serde_amqp::primitives::ByteBuf;
 ///
 /// # Encoding
 /// A list of the fields, described by the code 0x31.
-// amqp: encoding = "list", code = 0x31, name = "amqp:declare:list", rename_all = "kebab-case"
+// amqp: encoding = "list", code = 0x31, name = "amqp:declare:list", rename_all = "kebab-case", no_one_pass
 #[derive(Debug, PartialEq, Drop)]
 pub struct Declare {
     /// The distributed transaction, which the standard does not define.
@@ -19,7 +19,7 @@ pub struct Declare {
 ///
 /// # Encoding
 /// A list of the fields, described by the code 0x32.
-// amqp: encoding = "list", code = 0x32, name = "amqp:discharge:list", rename_all = "kebab-case"
+// amqp: encoding = "list", code = 0x32, name = "amqp:discharge:list", rename_all = "kebab-case", no_one_pass
 #[derive(Debug, PartialEq, Drop)]
 pub struct Discharge {
     /// The transaction.
@@ -32,7 +32,7 @@ pub struct Discharge {
 ///
 /// # Encoding
 /// A list of the fields, described by the code 0x33.
-// amqp: encoding = "list", code = 0x33, name = "amqp:declared:list", rename_all = "kebab-case"
+// amqp: encoding = "list", code = 0x33, name = "amqp:declared:list", rename_all = "kebab-case", no_one_pass
 #[derive(Debug, PartialEq, Drop)]
 pub struct Declared {
     /// The transaction.
@@ -43,7 +43,7 @@ pub struct Declared {
 ///
 /// # Encoding
 /// A list of the fields, described by the code 0x34.
-// amqp: encoding = "list", code = 0x34, name = "amqp:transactional-state:list", rename_all = "kebab-case"
+// amqp: encoding = "list", code = 0x34, name = "amqp:transactional-state:list", rename_all = "kebab-case", no_one_pass
 #[derive(Debug, PartialEq, Drop)]
 pub struct TransactionalState {
     /// The transaction.
@@ -54,10 +54,9 @@ pub struct TransactionalState {
 
 // amqp: the impls below are written by tools/derive from the annotations above
 use serde_amqp::derive::{
-    Composite, Deserialize, DeserializeSeed, Deserializer, FieldSeeds, FieldValues, GaveUp, Global,
-    ListOf, ListSeed, Optional, Record, Required, RoundTrip, RoundTripComposite, Serialize,
+    Composite, Deserialize, DeserializeSeed, Deserializer, FieldSeeds, FieldValues, Global, ListOf,
+    ListSeed, Optional, Record, Required, RoundTrip, RoundTripComposite, Serialize,
     SerializeCompounds, Serializer, fields, laws, named, read, read_composite_type,
-    read_composite_type_encoded, read_parts_encoded,
 };
 
 impl Serialize for Declare {
@@ -122,20 +121,6 @@ impl Composite for Declare {
         } = read::<Declare, D, _>(alloc, deserializer, ListSeed(named! { "global-id"? }))?;
         Ok(Declare { global_id })
     }
-
-    fn read_body_encoded(
-        alloc: Global,
-        code: u8,
-        input: &mut &[u8],
-        depth: u16,
-    ) -> Result<Declare, GaveUp> {
-        let seed = ListSeed(named! { "global-id"? });
-        let FieldValues {
-            value: global_id,
-            rest: (),
-        } = read_parts_encoded::<Declare, _>(alloc, code, input, depth, seed)?;
-        Ok(Declare { global_id })
-    }
 }
 
 impl Deserialize for Declare {
@@ -152,15 +137,6 @@ impl Deserialize for Declare {
 
     fn deserialize<D: Deserializer>(alloc: Global, deserializer: D) -> Result<Declare, D::Error> {
         read_composite_type::<Declare, D>(alloc, deserializer)
-    }
-
-    fn read_encoded(
-        alloc: Global,
-        code: u8,
-        input: &mut &[u8],
-        depth: u16,
-    ) -> Result<Declare, GaveUp> {
-        read_composite_type_encoded::<Declare>(alloc, code, input, depth)
     }
 }
 
@@ -246,24 +222,6 @@ impl Composite for Discharge {
         } = rest;
         Ok(Discharge { txn_id, fail })
     }
-
-    fn read_body_encoded(
-        alloc: Global,
-        code: u8,
-        input: &mut &[u8],
-        depth: u16,
-    ) -> Result<Discharge, GaveUp> {
-        let seed = ListSeed(named! { "txn-id", "fail"? });
-        let FieldValues {
-            value: txn_id,
-            rest,
-        } = read_parts_encoded::<Discharge, _>(alloc, code, input, depth, seed)?;
-        let FieldValues {
-            value: fail,
-            rest: (),
-        } = rest;
-        Ok(Discharge { txn_id, fail })
-    }
 }
 
 impl Deserialize for Discharge {
@@ -280,15 +238,6 @@ impl Deserialize for Discharge {
 
     fn deserialize<D: Deserializer>(alloc: Global, deserializer: D) -> Result<Discharge, D::Error> {
         read_composite_type::<Discharge, D>(alloc, deserializer)
-    }
-
-    fn read_encoded(
-        alloc: Global,
-        code: u8,
-        input: &mut &[u8],
-        depth: u16,
-    ) -> Result<Discharge, GaveUp> {
-        read_composite_type_encoded::<Discharge>(alloc, code, input, depth)
     }
 }
 
@@ -367,20 +316,6 @@ impl Composite for Declared {
         } = read::<Declared, D, _>(alloc, deserializer, ListSeed(named! { "txn-id" }))?;
         Ok(Declared { txn_id })
     }
-
-    fn read_body_encoded(
-        alloc: Global,
-        code: u8,
-        input: &mut &[u8],
-        depth: u16,
-    ) -> Result<Declared, GaveUp> {
-        let seed = ListSeed(named! { "txn-id" });
-        let FieldValues {
-            value: txn_id,
-            rest: (),
-        } = read_parts_encoded::<Declared, _>(alloc, code, input, depth, seed)?;
-        Ok(Declared { txn_id })
-    }
 }
 
 impl Deserialize for Declared {
@@ -397,15 +332,6 @@ impl Deserialize for Declared {
 
     fn deserialize<D: Deserializer>(alloc: Global, deserializer: D) -> Result<Declared, D::Error> {
         read_composite_type::<Declared, D>(alloc, deserializer)
-    }
-
-    fn read_encoded(
-        alloc: Global,
-        code: u8,
-        input: &mut &[u8],
-        depth: u16,
-    ) -> Result<Declared, GaveUp> {
-        read_composite_type_encoded::<Declared>(alloc, code, input, depth)
     }
 }
 
@@ -498,24 +424,6 @@ impl Composite for TransactionalState {
         } = rest;
         Ok(TransactionalState { txn_id, outcome })
     }
-
-    fn read_body_encoded(
-        alloc: Global,
-        code: u8,
-        input: &mut &[u8],
-        depth: u16,
-    ) -> Result<TransactionalState, GaveUp> {
-        let seed = ListSeed(named! { "txn-id", "outcome"? });
-        let FieldValues {
-            value: txn_id,
-            rest,
-        } = read_parts_encoded::<TransactionalState, _>(alloc, code, input, depth, seed)?;
-        let FieldValues {
-            value: outcome,
-            rest: (),
-        } = rest;
-        Ok(TransactionalState { txn_id, outcome })
-    }
 }
 
 impl Deserialize for TransactionalState {
@@ -535,15 +443,6 @@ impl Deserialize for TransactionalState {
         deserializer: D,
     ) -> Result<TransactionalState, D::Error> {
         read_composite_type::<TransactionalState, D>(alloc, deserializer)
-    }
-
-    fn read_encoded(
-        alloc: Global,
-        code: u8,
-        input: &mut &[u8],
-        depth: u16,
-    ) -> Result<TransactionalState, GaveUp> {
-        read_composite_type_encoded::<TransactionalState>(alloc, code, input, depth)
     }
 }
 

@@ -8,7 +8,7 @@ use serde_amqp::primitives::OrderedMap;
 ///
 /// # Encoding
 /// The value, described by the code 0x71.
-// amqp: encoding = "basic", code = 0x71, name = "amqp:delivery-annotations:map"
+// amqp: encoding = "basic", code = 0x71, name = "amqp:delivery-annotations:map", no_one_pass
 #[derive(Debug, PartialEq, Drop)]
 pub struct DeliveryAnnotations(pub OrderedMap<AnnotationKey, Value>);
 
@@ -16,7 +16,7 @@ pub struct DeliveryAnnotations(pub OrderedMap<AnnotationKey, Value>);
 ///
 /// # Encoding
 /// The value, described by the code 0x72.
-// amqp: encoding = "basic", code = 0x72, name = "amqp:message-annotations:map"
+// amqp: encoding = "basic", code = 0x72, name = "amqp:message-annotations:map", no_one_pass
 #[derive(Debug, PartialEq, Drop)]
 pub struct MessageAnnotations(pub OrderedMap<AnnotationKey, Value>);
 
@@ -24,7 +24,7 @@ pub struct MessageAnnotations(pub OrderedMap<AnnotationKey, Value>);
 ///
 /// # Encoding
 /// The value, described by the code 0x74.
-// amqp: encoding = "basic", code = 0x74, name = "amqp:application-properties:map"
+// amqp: encoding = "basic", code = 0x74, name = "amqp:application-properties:map", no_one_pass
 #[derive(Debug, PartialEq, Drop)]
 pub struct ApplicationProperties(pub OrderedMap<String, Value>);
 
@@ -32,15 +32,15 @@ pub struct ApplicationProperties(pub OrderedMap<String, Value>);
 ///
 /// # Encoding
 /// The value, described by the code 0x78.
-// amqp: encoding = "basic", code = 0x78, name = "amqp:footer:map"
+// amqp: encoding = "basic", code = 0x78, name = "amqp:footer:map", no_one_pass
 #[derive(Debug, PartialEq, Drop)]
 pub struct Footer(pub OrderedMap<AnnotationKey, Value>);
 
 // amqp: the impls below are written by tools/derive from the annotations above
 use serde_amqp::derive::{
-    Composite, Deserialize, DeserializeSeed, Deserializer, GaveUp, Global, PhantomData, Record,
-    RoundTrip, RoundTripComposite, Serialize, SerializeCompounds, Serializer, TypeSeed, laws, read,
-    read_composite_type, read_composite_type_encoded, read_parts_encoded,
+    Composite, Deserialize, DeserializeSeed, Deserializer, Global, PhantomData, Record, RoundTrip,
+    RoundTripComposite, Serialize, SerializeCompounds, Serializer, TypeSeed, laws, read,
+    read_composite_type,
 };
 
 impl Serialize for DeliveryAnnotations {
@@ -93,17 +93,6 @@ impl Composite for DeliveryAnnotations {
         )?;
         Ok(DeliveryAnnotations(part0))
     }
-
-    fn read_body_encoded(
-        alloc: Global,
-        code: u8,
-        input: &mut &[u8],
-        depth: u16,
-    ) -> Result<DeliveryAnnotations, GaveUp> {
-        let seed = TypeSeed(PhantomData::<OrderedMap<AnnotationKey, Value>>);
-        let part0 = read_parts_encoded::<DeliveryAnnotations, _>(alloc, code, input, depth, seed)?;
-        Ok(DeliveryAnnotations(part0))
-    }
 }
 
 impl Deserialize for DeliveryAnnotations {
@@ -123,15 +112,6 @@ impl Deserialize for DeliveryAnnotations {
         deserializer: D,
     ) -> Result<DeliveryAnnotations, D::Error> {
         read_composite_type::<DeliveryAnnotations, D>(alloc, deserializer)
-    }
-
-    fn read_encoded(
-        alloc: Global,
-        code: u8,
-        input: &mut &[u8],
-        depth: u16,
-    ) -> Result<DeliveryAnnotations, GaveUp> {
-        read_composite_type_encoded::<DeliveryAnnotations>(alloc, code, input, depth)
     }
 }
 
@@ -198,17 +178,6 @@ impl Composite for MessageAnnotations {
         )?;
         Ok(MessageAnnotations(part0))
     }
-
-    fn read_body_encoded(
-        alloc: Global,
-        code: u8,
-        input: &mut &[u8],
-        depth: u16,
-    ) -> Result<MessageAnnotations, GaveUp> {
-        let seed = TypeSeed(PhantomData::<OrderedMap<AnnotationKey, Value>>);
-        let part0 = read_parts_encoded::<MessageAnnotations, _>(alloc, code, input, depth, seed)?;
-        Ok(MessageAnnotations(part0))
-    }
 }
 
 impl Deserialize for MessageAnnotations {
@@ -228,15 +197,6 @@ impl Deserialize for MessageAnnotations {
         deserializer: D,
     ) -> Result<MessageAnnotations, D::Error> {
         read_composite_type::<MessageAnnotations, D>(alloc, deserializer)
-    }
-
-    fn read_encoded(
-        alloc: Global,
-        code: u8,
-        input: &mut &[u8],
-        depth: u16,
-    ) -> Result<MessageAnnotations, GaveUp> {
-        read_composite_type_encoded::<MessageAnnotations>(alloc, code, input, depth)
     }
 }
 
@@ -303,19 +263,6 @@ impl Composite for ApplicationProperties {
         )?;
         Ok(ApplicationProperties(part0))
     }
-
-    fn read_body_encoded(
-        alloc: Global,
-        code: u8,
-        input: &mut &[u8],
-        depth: u16,
-    ) -> Result<ApplicationProperties, GaveUp> {
-        let seed = TypeSeed(PhantomData::<OrderedMap<String, Value>>);
-        let part0 = read_parts_encoded::<ApplicationProperties, _>(
-            alloc, code, input, depth, seed,
-        )?;
-        Ok(ApplicationProperties(part0))
-    }
 }
 
 impl Deserialize for ApplicationProperties {
@@ -335,15 +282,6 @@ impl Deserialize for ApplicationProperties {
         deserializer: D,
     ) -> Result<ApplicationProperties, D::Error> {
         read_composite_type::<ApplicationProperties, D>(alloc, deserializer)
-    }
-
-    fn read_encoded(
-        alloc: Global,
-        code: u8,
-        input: &mut &[u8],
-        depth: u16,
-    ) -> Result<ApplicationProperties, GaveUp> {
-        read_composite_type_encoded::<ApplicationProperties>(alloc, code, input, depth)
     }
 }
 
@@ -407,17 +345,6 @@ impl Composite for Footer {
         )?;
         Ok(Footer(part0))
     }
-
-    fn read_body_encoded(
-        alloc: Global,
-        code: u8,
-        input: &mut &[u8],
-        depth: u16,
-    ) -> Result<Footer, GaveUp> {
-        let seed = TypeSeed(PhantomData::<OrderedMap<AnnotationKey, Value>>);
-        let part0 = read_parts_encoded::<Footer, _>(alloc, code, input, depth, seed)?;
-        Ok(Footer(part0))
-    }
 }
 
 impl Deserialize for Footer {
@@ -434,15 +361,6 @@ impl Deserialize for Footer {
 
     fn deserialize<D: Deserializer>(alloc: Global, deserializer: D) -> Result<Footer, D::Error> {
         read_composite_type::<Footer, D>(alloc, deserializer)
-    }
-
-    fn read_encoded(
-        alloc: Global,
-        code: u8,
-        input: &mut &[u8],
-        depth: u16,
-    ) -> Result<Footer, GaveUp> {
-        read_composite_type_encoded::<Footer>(alloc, code, input, depth)
     }
 }
 

@@ -10,7 +10,7 @@ use amqp_common::Unknown;
 ///
 /// # Encoding
 /// The composite of the variant.
-// amqp: encoding = "described", others
+// amqp: encoding = "described", others, no_one_pass
 #[derive(Debug, PartialEq, Drop)]
 pub enum Section {
     /// How a message is delivered.
@@ -37,9 +37,8 @@ pub enum Section {
 
 // amqp: the impls below are written by tools/derive from the annotations above
 use serde_amqp::derive::{
-    Alternatives, Deserialize, Deserializer, Either, GaveUp, Global, Record, RoundTrip,
+    Alternatives, Deserialize, Deserializer, Either, Global, Record, RoundTrip,
     RoundTripAlternatives, Serialize, Serializer, laws, read_alternatives,
-    read_alternatives_encoded,
 };
 
 impl Record for Section {
@@ -101,66 +100,6 @@ impl Deserialize for Section {
 
     fn deserialize<D: Deserializer>(alloc: Global, deserializer: D) -> Result<Section, D::Error> {
         match read_alternatives::<Section, D>(alloc, deserializer)? {
-            Either::This(value) => Ok(Section::Header(value)),
-            Either::Other(Either::This(value)) => Ok(Section::DeliveryAnnotations(value)),
-            Either::Other(Either::Other(Either::This(value))) => Ok(Section::MessageAnnotations(
-                value,
-            )),
-            Either::Other(Either::Other(Either::Other(Either::This(value)))) => Ok(
-                Section::Properties(value),
-            ),
-            Either::Other(Either::Other(Either::Other(Either::Other(Either::This(value))))) => Ok(
-                Section::ApplicationProperties(value),
-            ),
-            Either::Other(
-                Either::Other(Either::Other(Either::Other(Either::Other(Either::This(value))))),
-            ) => Ok(Section::Data(value)),
-            Either::Other(
-                Either::Other(
-                    Either::Other(Either::Other(Either::Other(Either::Other(Either::This(value))))),
-                ),
-            ) => Ok(Section::AmqpSequence(value)),
-            Either::Other(
-                Either::Other(
-                    Either::Other(
-                        Either::Other(
-                            Either::Other(Either::Other(Either::Other(Either::This(value)))),
-                        ),
-                    ),
-                ),
-            ) => Ok(Section::AmqpValue(value)),
-            Either::Other(
-                Either::Other(
-                    Either::Other(
-                        Either::Other(
-                            Either::Other(
-                                Either::Other(Either::Other(Either::Other(Either::This(value)))),
-                            ),
-                        ),
-                    ),
-                ),
-            ) => Ok(Section::Footer(value)),
-            Either::Other(
-                Either::Other(
-                    Either::Other(
-                        Either::Other(
-                            Either::Other(
-                                Either::Other(Either::Other(Either::Other(Either::Other(value)))),
-                            ),
-                        ),
-                    ),
-                ),
-            ) => Ok(Section::Other(value)),
-        }
-    }
-
-    fn read_encoded(
-        alloc: Global,
-        code: u8,
-        input: &mut &[u8],
-        depth: u16,
-    ) -> Result<Section, GaveUp> {
-        match read_alternatives_encoded::<Section>(alloc, code, input, depth)? {
             Either::This(value) => Ok(Section::Header(value)),
             Either::Other(Either::This(value)) => Ok(Section::DeliveryAnnotations(value)),
             Either::Other(Either::Other(Either::This(value))) => Ok(Section::MessageAnnotations(

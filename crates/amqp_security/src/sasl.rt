@@ -6,7 +6,7 @@ use serde_amqp::primitives::{ByteBuf, Multiple, Symbol};
 ///
 /// # Encoding
 /// A list of the fields, described by the code 0x40.
-// amqp: encoding = "list", code = 0x40, name = "amqp:sasl-mechanisms:list", rename_all = "kebab-case"
+// amqp: encoding = "list", code = 0x40, name = "amqp:sasl-mechanisms:list", rename_all = "kebab-case", no_one_pass
 #[derive(Debug, PartialEq, Drop)]
 pub struct SaslMechanisms {
     /// The mechanisms, the preferred one first.
@@ -17,7 +17,7 @@ pub struct SaslMechanisms {
 ///
 /// # Encoding
 /// A list of the fields, described by the code 0x41.
-// amqp: encoding = "list", code = 0x41, name = "amqp:sasl-init:list", rename_all = "kebab-case"
+// amqp: encoding = "list", code = 0x41, name = "amqp:sasl-init:list", rename_all = "kebab-case", no_one_pass
 #[derive(Debug, PartialEq, Drop)]
 pub struct SaslInit {
     /// The mechanism.
@@ -32,7 +32,7 @@ pub struct SaslInit {
 ///
 /// # Encoding
 /// A list of the fields, described by the code 0x42.
-// amqp: encoding = "list", code = 0x42, name = "amqp:sasl-challenge:list", rename_all = "kebab-case"
+// amqp: encoding = "list", code = 0x42, name = "amqp:sasl-challenge:list", rename_all = "kebab-case", no_one_pass
 #[derive(Debug, PartialEq, Drop)]
 pub struct SaslChallenge {
     /// Its bytes.
@@ -43,7 +43,7 @@ pub struct SaslChallenge {
 ///
 /// # Encoding
 /// A list of the fields, described by the code 0x43.
-// amqp: encoding = "list", code = 0x43, name = "amqp:sasl-response:list", rename_all = "kebab-case"
+// amqp: encoding = "list", code = 0x43, name = "amqp:sasl-response:list", rename_all = "kebab-case", no_one_pass
 #[derive(Debug, PartialEq, Drop)]
 pub struct SaslResponse {
     /// Its bytes.
@@ -52,10 +52,9 @@ pub struct SaslResponse {
 
 // amqp: the impls below are written by tools/derive from the annotations above
 use serde_amqp::derive::{
-    Composite, Deserialize, DeserializeSeed, Deserializer, FieldSeeds, FieldValues, GaveUp, Global,
-    ListOf, ListSeed, Optional, Record, Required, RoundTrip, RoundTripComposite, Serialize,
+    Composite, Deserialize, DeserializeSeed, Deserializer, FieldSeeds, FieldValues, Global, ListOf,
+    ListSeed, Optional, Record, Required, RoundTrip, RoundTripComposite, Serialize,
     SerializeCompounds, Serializer, fields, laws, named, read, read_composite_type,
-    read_composite_type_encoded, read_parts_encoded,
 };
 
 impl Serialize for SaslMechanisms {
@@ -129,22 +128,6 @@ impl Composite for SaslMechanisms {
             sasl_server_mechanisms,
         })
     }
-
-    fn read_body_encoded(
-        alloc: Global,
-        code: u8,
-        input: &mut &[u8],
-        depth: u16,
-    ) -> Result<SaslMechanisms, GaveUp> {
-        let seed = ListSeed(named! { "sasl-server-mechanisms" });
-        let FieldValues {
-            value: sasl_server_mechanisms,
-            rest: (),
-        } = read_parts_encoded::<SaslMechanisms, _>(alloc, code, input, depth, seed)?;
-        Ok(SaslMechanisms {
-            sasl_server_mechanisms,
-        })
-    }
 }
 
 impl Deserialize for SaslMechanisms {
@@ -164,15 +147,6 @@ impl Deserialize for SaslMechanisms {
         deserializer: D,
     ) -> Result<SaslMechanisms, D::Error> {
         read_composite_type::<SaslMechanisms, D>(alloc, deserializer)
-    }
-
-    fn read_encoded(
-        alloc: Global,
-        code: u8,
-        input: &mut &[u8],
-        depth: u16,
-    ) -> Result<SaslMechanisms, GaveUp> {
-        read_composite_type_encoded::<SaslMechanisms>(alloc, code, input, depth)
     }
 }
 
@@ -273,32 +247,6 @@ impl Composite for SaslInit {
             hostname,
         })
     }
-
-    fn read_body_encoded(
-        alloc: Global,
-        code: u8,
-        input: &mut &[u8],
-        depth: u16,
-    ) -> Result<SaslInit, GaveUp> {
-        let seed = ListSeed(named! { "mechanism", "initial-response"?, "hostname"? });
-        let FieldValues {
-            value: mechanism,
-            rest,
-        } = read_parts_encoded::<SaslInit, _>(alloc, code, input, depth, seed)?;
-        let FieldValues {
-            value: initial_response,
-            rest,
-        } = rest;
-        let FieldValues {
-            value: hostname,
-            rest: (),
-        } = rest;
-        Ok(SaslInit {
-            mechanism,
-            initial_response,
-            hostname,
-        })
-    }
 }
 
 impl Deserialize for SaslInit {
@@ -315,15 +263,6 @@ impl Deserialize for SaslInit {
 
     fn deserialize<D: Deserializer>(alloc: Global, deserializer: D) -> Result<SaslInit, D::Error> {
         read_composite_type::<SaslInit, D>(alloc, deserializer)
-    }
-
-    fn read_encoded(
-        alloc: Global,
-        code: u8,
-        input: &mut &[u8],
-        depth: u16,
-    ) -> Result<SaslInit, GaveUp> {
-        read_composite_type_encoded::<SaslInit>(alloc, code, input, depth)
     }
 }
 
@@ -405,20 +344,6 @@ impl Composite for SaslChallenge {
         } = read::<SaslChallenge, D, _>(alloc, deserializer, ListSeed(named! { "challenge" }))?;
         Ok(SaslChallenge { challenge })
     }
-
-    fn read_body_encoded(
-        alloc: Global,
-        code: u8,
-        input: &mut &[u8],
-        depth: u16,
-    ) -> Result<SaslChallenge, GaveUp> {
-        let seed = ListSeed(named! { "challenge" });
-        let FieldValues {
-            value: challenge,
-            rest: (),
-        } = read_parts_encoded::<SaslChallenge, _>(alloc, code, input, depth, seed)?;
-        Ok(SaslChallenge { challenge })
-    }
 }
 
 impl Deserialize for SaslChallenge {
@@ -438,15 +363,6 @@ impl Deserialize for SaslChallenge {
         deserializer: D,
     ) -> Result<SaslChallenge, D::Error> {
         read_composite_type::<SaslChallenge, D>(alloc, deserializer)
-    }
-
-    fn read_encoded(
-        alloc: Global,
-        code: u8,
-        input: &mut &[u8],
-        depth: u16,
-    ) -> Result<SaslChallenge, GaveUp> {
-        read_composite_type_encoded::<SaslChallenge>(alloc, code, input, depth)
     }
 }
 
@@ -528,20 +444,6 @@ impl Composite for SaslResponse {
         } = read::<SaslResponse, D, _>(alloc, deserializer, ListSeed(named! { "response" }))?;
         Ok(SaslResponse { response })
     }
-
-    fn read_body_encoded(
-        alloc: Global,
-        code: u8,
-        input: &mut &[u8],
-        depth: u16,
-    ) -> Result<SaslResponse, GaveUp> {
-        let seed = ListSeed(named! { "response" });
-        let FieldValues {
-            value: response,
-            rest: (),
-        } = read_parts_encoded::<SaslResponse, _>(alloc, code, input, depth, seed)?;
-        Ok(SaslResponse { response })
-    }
 }
 
 impl Deserialize for SaslResponse {
@@ -561,15 +463,6 @@ impl Deserialize for SaslResponse {
         deserializer: D,
     ) -> Result<SaslResponse, D::Error> {
         read_composite_type::<SaslResponse, D>(alloc, deserializer)
-    }
-
-    fn read_encoded(
-        alloc: Global,
-        code: u8,
-        input: &mut &[u8],
-        depth: u16,
-    ) -> Result<SaslResponse, GaveUp> {
-        read_composite_type_encoded::<SaslResponse>(alloc, code, input, depth)
     }
 }
 

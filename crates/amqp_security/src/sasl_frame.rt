@@ -8,7 +8,7 @@ use amqp_common::Unknown;
 ///
 /// # Encoding
 /// The composite of the variant.
-// amqp: encoding = "described", others
+// amqp: encoding = "described", others, no_one_pass
 #[derive(Debug, PartialEq, Drop)]
 pub enum SaslFrame {
     /// The mechanisms of the server.
@@ -27,9 +27,8 @@ pub enum SaslFrame {
 
 // amqp: the impls below are written by tools/derive from the annotations above
 use serde_amqp::derive::{
-    Alternatives, Deserialize, Deserializer, Either, GaveUp, Global, Record, RoundTrip,
+    Alternatives, Deserialize, Deserializer, Either, Global, Record, RoundTrip,
     RoundTripAlternatives, Serialize, Serializer, laws, read_alternatives,
-    read_alternatives_encoded,
 };
 
 impl Record for SaslFrame {
@@ -72,30 +71,6 @@ impl Deserialize for SaslFrame {
 
     fn deserialize<D: Deserializer>(alloc: Global, deserializer: D) -> Result<SaslFrame, D::Error> {
         match read_alternatives::<SaslFrame, D>(alloc, deserializer)? {
-            Either::This(value) => Ok(SaslFrame::SaslMechanisms(value)),
-            Either::Other(Either::This(value)) => Ok(SaslFrame::SaslInit(value)),
-            Either::Other(Either::Other(Either::This(value))) => Ok(SaslFrame::SaslChallenge(
-                value,
-            )),
-            Either::Other(Either::Other(Either::Other(Either::This(value)))) => Ok(
-                SaslFrame::SaslResponse(value),
-            ),
-            Either::Other(Either::Other(Either::Other(Either::Other(Either::This(value))))) => Ok(
-                SaslFrame::SaslOutcome(value),
-            ),
-            Either::Other(Either::Other(Either::Other(Either::Other(Either::Other(value))))) => Ok(
-                SaslFrame::Other(value),
-            ),
-        }
-    }
-
-    fn read_encoded(
-        alloc: Global,
-        code: u8,
-        input: &mut &[u8],
-        depth: u16,
-    ) -> Result<SaslFrame, GaveUp> {
-        match read_alternatives_encoded::<SaslFrame>(alloc, code, input, depth)? {
             Either::This(value) => Ok(SaslFrame::SaslMechanisms(value)),
             Either::Other(Either::This(value)) => Ok(SaslFrame::SaslInit(value)),
             Either::Other(Either::Other(Either::This(value))) => Ok(SaslFrame::SaslChallenge(

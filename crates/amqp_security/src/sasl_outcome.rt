@@ -6,7 +6,7 @@ use serde_amqp::primitives::ByteBuf;
 ///
 /// # Encoding
 /// A list of the fields, described by the code 0x44.
-// amqp: encoding = "list", code = 0x44, name = "amqp:sasl-outcome:list", rename_all = "kebab-case"
+// amqp: encoding = "list", code = 0x44, name = "amqp:sasl-outcome:list", rename_all = "kebab-case", no_one_pass
 #[derive(Debug, PartialEq, Drop)]
 pub struct SaslOutcome {
     /// Whether the client is authenticated.
@@ -39,7 +39,7 @@ use serde_amqp::derive::{
     Composite, Deserialize, DeserializeError, DeserializeSeed, Deserializer, FieldSeeds,
     FieldValues, FixedContent, GaveUp, Global, ListOf, ListSeed, Optional, Record, Required,
     RoundTrip, RoundTripComposite, Serialize, SerializeCompounds, Serializer, fields, laws, named,
-    read, read_composite_type, read_composite_type_encoded, read_parts_encoded,
+    read, read_composite_type,
 };
 
 impl Serialize for SaslOutcome {
@@ -115,26 +115,6 @@ impl Composite for SaslOutcome {
             additional_data,
         })
     }
-
-    fn read_body_encoded(
-        alloc: Global,
-        code: u8,
-        input: &mut &[u8],
-        depth: u16,
-    ) -> Result<SaslOutcome, GaveUp> {
-        let seed = ListSeed(named! { "code", "additional-data"? });
-        let FieldValues { value: code, rest } = read_parts_encoded::<SaslOutcome, _>(
-            alloc, code, input, depth, seed,
-        )?;
-        let FieldValues {
-            value: additional_data,
-            rest: (),
-        } = rest;
-        Ok(SaslOutcome {
-            code,
-            additional_data,
-        })
-    }
 }
 
 impl Deserialize for SaslOutcome {
@@ -154,15 +134,6 @@ impl Deserialize for SaslOutcome {
         deserializer: D,
     ) -> Result<SaslOutcome, D::Error> {
         read_composite_type::<SaslOutcome, D>(alloc, deserializer)
-    }
-
-    fn read_encoded(
-        alloc: Global,
-        code: u8,
-        input: &mut &[u8],
-        depth: u16,
-    ) -> Result<SaslOutcome, GaveUp> {
-        read_composite_type_encoded::<SaslOutcome>(alloc, code, input, depth)
     }
 }
 

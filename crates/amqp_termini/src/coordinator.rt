@@ -7,7 +7,7 @@ use serde_amqp::primitives::{Multiple, Symbol};
 ///
 /// # Encoding
 /// A list of the fields, described by the code 0x30.
-// amqp: encoding = "list", code = 0x30, name = "amqp:coordinator:list", rename_all = "kebab-case"
+// amqp: encoding = "list", code = 0x30, name = "amqp:coordinator:list", rename_all = "kebab-case", no_one_pass
 #[derive(Debug, PartialEq, Drop)]
 pub struct Coordinator {
     /// What the coordinator supports, such as values of `TxnCapability`.
@@ -37,7 +37,7 @@ pub enum TxnCapability {
 ///
 /// # Encoding
 /// The composite of the variant.
-// amqp: encoding = "described"
+// amqp: encoding = "described", no_one_pass
 #[derive(Debug, PartialEq, Drop)]
 pub enum AnyTarget {
     /// Where the messages of a link go to.
@@ -51,8 +51,7 @@ use serde_amqp::derive::{
     Alternatives, Composite, Content, Deserialize, DeserializeError, DeserializeSeed, Deserializer,
     Either, FieldSeeds, FieldValues, GaveUp, Global, ListOf, ListSeed, Name, Never, Optional,
     Record, RoundTrip, RoundTripAlternatives, RoundTripComposite, Serialize, SerializeCompounds,
-    Serializer, fields, laws, named, read, read_alternatives, read_alternatives_encoded,
-    read_composite_type, read_composite_type_encoded, read_parts_encoded,
+    Serializer, fields, laws, named, read, read_alternatives, read_composite_type,
 };
 
 impl Serialize for Coordinator {
@@ -117,20 +116,6 @@ impl Composite for Coordinator {
         } = read::<Coordinator, D, _>(alloc, deserializer, ListSeed(named! { "capabilities"? }))?;
         Ok(Coordinator { capabilities })
     }
-
-    fn read_body_encoded(
-        alloc: Global,
-        code: u8,
-        input: &mut &[u8],
-        depth: u16,
-    ) -> Result<Coordinator, GaveUp> {
-        let seed = ListSeed(named! { "capabilities"? });
-        let FieldValues {
-            value: capabilities,
-            rest: (),
-        } = read_parts_encoded::<Coordinator, _>(alloc, code, input, depth, seed)?;
-        Ok(Coordinator { capabilities })
-    }
 }
 
 impl Deserialize for Coordinator {
@@ -150,15 +135,6 @@ impl Deserialize for Coordinator {
         deserializer: D,
     ) -> Result<Coordinator, D::Error> {
         read_composite_type::<Coordinator, D>(alloc, deserializer)
-    }
-
-    fn read_encoded(
-        alloc: Global,
-        code: u8,
-        input: &mut &[u8],
-        depth: u16,
-    ) -> Result<Coordinator, GaveUp> {
-        read_composite_type_encoded::<Coordinator>(alloc, code, input, depth)
     }
 }
 
@@ -312,19 +288,6 @@ impl Deserialize for AnyTarget {
 
     fn deserialize<D: Deserializer>(alloc: Global, deserializer: D) -> Result<AnyTarget, D::Error> {
         match read_alternatives::<AnyTarget, D>(alloc, deserializer)? {
-            Either::This(value) => Ok(AnyTarget::Target(value)),
-            Either::Other(Either::This(value)) => Ok(AnyTarget::Coordinator(value)),
-            Either::Other(Either::Other(never)) => match never {},
-        }
-    }
-
-    fn read_encoded(
-        alloc: Global,
-        code: u8,
-        input: &mut &[u8],
-        depth: u16,
-    ) -> Result<AnyTarget, GaveUp> {
-        match read_alternatives_encoded::<AnyTarget>(alloc, code, input, depth)? {
             Either::This(value) => Ok(AnyTarget::Target(value)),
             Either::Other(Either::This(value)) => Ok(AnyTarget::Coordinator(value)),
             Either::Other(Either::Other(never)) => match never {},

@@ -4,7 +4,7 @@
 ///
 /// # Encoding
 /// A list of the fields, described by the code 0x2b.
-// amqp: encoding = "list", code = 0x2b, name = "amqp:delete-on-close:list"
+// amqp: encoding = "list", code = 0x2b, name = "amqp:delete-on-close:list", no_one_pass
 #[derive(Debug, PartialEq, Drop)]
 pub struct DeleteOnClose;
 
@@ -12,7 +12,7 @@ pub struct DeleteOnClose;
 ///
 /// # Encoding
 /// A list of the fields, described by the code 0x2c.
-// amqp: encoding = "list", code = 0x2c, name = "amqp:delete-on-no-links:list"
+// amqp: encoding = "list", code = 0x2c, name = "amqp:delete-on-no-links:list", no_one_pass
 #[derive(Debug, PartialEq, Drop)]
 pub struct DeleteOnNoLinks;
 
@@ -20,7 +20,7 @@ pub struct DeleteOnNoLinks;
 ///
 /// # Encoding
 /// A list of the fields, described by the code 0x2d.
-// amqp: encoding = "list", code = 0x2d, name = "amqp:delete-on-no-messages:list"
+// amqp: encoding = "list", code = 0x2d, name = "amqp:delete-on-no-messages:list", no_one_pass
 #[derive(Debug, PartialEq, Drop)]
 pub struct DeleteOnNoMessages;
 
@@ -28,7 +28,7 @@ pub struct DeleteOnNoMessages;
 ///
 /// # Encoding
 /// A list of the fields, described by the code 0x2e.
-// amqp: encoding = "list", code = 0x2e, name = "amqp:delete-on-no-links-or-messages:list"
+// amqp: encoding = "list", code = 0x2e, name = "amqp:delete-on-no-links-or-messages:list", no_one_pass
 #[derive(Debug, PartialEq, Drop)]
 pub struct DeleteOnNoLinksOrMessages;
 
@@ -37,7 +37,7 @@ pub struct DeleteOnNoLinksOrMessages;
 ///
 /// # Encoding
 /// The composite of the variant.
-// amqp: encoding = "described"
+// amqp: encoding = "described", no_one_pass
 #[derive(Debug, PartialEq, Drop)]
 pub enum LifetimePolicy {
     /// When its link is closed.
@@ -53,10 +53,9 @@ pub enum LifetimePolicy {
 // amqp: the impls below are written by tools/derive from the annotations above
 use serde_amqp::derive::{
     Alternatives, Composite, Deserialize, DeserializeSeed, Deserializer, Either, FieldSeeds,
-    GaveUp, Global, ListOf, ListSeed, Never, Record, RoundTrip, RoundTripAlternatives,
-    RoundTripComposite, Serialize, SerializeCompounds, Serializer, fields, laws, read_alternatives,
-    read_alternatives_encoded, read_composite_type, read_composite_type_encoded, read_no_fields,
-    read_parts_encoded,
+    Global, ListOf, ListSeed, Never, Record, RoundTrip, RoundTripAlternatives, RoundTripComposite,
+    Serialize, SerializeCompounds, Serializer, fields, laws, read_alternatives,
+    read_composite_type, read_no_fields,
 };
 
 impl Serialize for DeleteOnClose {
@@ -110,17 +109,6 @@ impl Composite for DeleteOnClose {
         let () = read_no_fields::<D>(deserializer)?;
         Ok(DeleteOnClose)
     }
-
-    fn read_body_encoded(
-        alloc: Global,
-        code: u8,
-        input: &mut &[u8],
-        depth: u16,
-    ) -> Result<DeleteOnClose, GaveUp> {
-        let seed = ListSeed(());
-        let () = read_parts_encoded::<DeleteOnClose, _>(alloc, code, input, depth, seed)?;
-        Ok(DeleteOnClose)
-    }
 }
 
 impl Deserialize for DeleteOnClose {
@@ -140,15 +128,6 @@ impl Deserialize for DeleteOnClose {
         deserializer: D,
     ) -> Result<DeleteOnClose, D::Error> {
         read_composite_type::<DeleteOnClose, D>(alloc, deserializer)
-    }
-
-    fn read_encoded(
-        alloc: Global,
-        code: u8,
-        input: &mut &[u8],
-        depth: u16,
-    ) -> Result<DeleteOnClose, GaveUp> {
-        read_composite_type_encoded::<DeleteOnClose>(alloc, code, input, depth)
     }
 }
 
@@ -216,17 +195,6 @@ impl Composite for DeleteOnNoLinks {
         let () = read_no_fields::<D>(deserializer)?;
         Ok(DeleteOnNoLinks)
     }
-
-    fn read_body_encoded(
-        alloc: Global,
-        code: u8,
-        input: &mut &[u8],
-        depth: u16,
-    ) -> Result<DeleteOnNoLinks, GaveUp> {
-        let seed = ListSeed(());
-        let () = read_parts_encoded::<DeleteOnNoLinks, _>(alloc, code, input, depth, seed)?;
-        Ok(DeleteOnNoLinks)
-    }
 }
 
 impl Deserialize for DeleteOnNoLinks {
@@ -246,15 +214,6 @@ impl Deserialize for DeleteOnNoLinks {
         deserializer: D,
     ) -> Result<DeleteOnNoLinks, D::Error> {
         read_composite_type::<DeleteOnNoLinks, D>(alloc, deserializer)
-    }
-
-    fn read_encoded(
-        alloc: Global,
-        code: u8,
-        input: &mut &[u8],
-        depth: u16,
-    ) -> Result<DeleteOnNoLinks, GaveUp> {
-        read_composite_type_encoded::<DeleteOnNoLinks>(alloc, code, input, depth)
     }
 }
 
@@ -322,17 +281,6 @@ impl Composite for DeleteOnNoMessages {
         let () = read_no_fields::<D>(deserializer)?;
         Ok(DeleteOnNoMessages)
     }
-
-    fn read_body_encoded(
-        alloc: Global,
-        code: u8,
-        input: &mut &[u8],
-        depth: u16,
-    ) -> Result<DeleteOnNoMessages, GaveUp> {
-        let seed = ListSeed(());
-        let () = read_parts_encoded::<DeleteOnNoMessages, _>(alloc, code, input, depth, seed)?;
-        Ok(DeleteOnNoMessages)
-    }
 }
 
 impl Deserialize for DeleteOnNoMessages {
@@ -352,15 +300,6 @@ impl Deserialize for DeleteOnNoMessages {
         deserializer: D,
     ) -> Result<DeleteOnNoMessages, D::Error> {
         read_composite_type::<DeleteOnNoMessages, D>(alloc, deserializer)
-    }
-
-    fn read_encoded(
-        alloc: Global,
-        code: u8,
-        input: &mut &[u8],
-        depth: u16,
-    ) -> Result<DeleteOnNoMessages, GaveUp> {
-        read_composite_type_encoded::<DeleteOnNoMessages>(alloc, code, input, depth)
     }
 }
 
@@ -428,19 +367,6 @@ impl Composite for DeleteOnNoLinksOrMessages {
         let () = read_no_fields::<D>(deserializer)?;
         Ok(DeleteOnNoLinksOrMessages)
     }
-
-    fn read_body_encoded(
-        alloc: Global,
-        code: u8,
-        input: &mut &[u8],
-        depth: u16,
-    ) -> Result<DeleteOnNoLinksOrMessages, GaveUp> {
-        let seed = ListSeed(());
-        let () = read_parts_encoded::<DeleteOnNoLinksOrMessages, _>(
-            alloc, code, input, depth, seed,
-        )?;
-        Ok(DeleteOnNoLinksOrMessages)
-    }
 }
 
 impl Deserialize for DeleteOnNoLinksOrMessages {
@@ -460,15 +386,6 @@ impl Deserialize for DeleteOnNoLinksOrMessages {
         deserializer: D,
     ) -> Result<DeleteOnNoLinksOrMessages, D::Error> {
         read_composite_type::<DeleteOnNoLinksOrMessages, D>(alloc, deserializer)
-    }
-
-    fn read_encoded(
-        alloc: Global,
-        code: u8,
-        input: &mut &[u8],
-        depth: u16,
-    ) -> Result<DeleteOnNoLinksOrMessages, GaveUp> {
-        read_composite_type_encoded::<DeleteOnNoLinksOrMessages>(alloc, code, input, depth)
     }
 }
 
@@ -529,25 +446,6 @@ impl Deserialize for LifetimePolicy {
         deserializer: D,
     ) -> Result<LifetimePolicy, D::Error> {
         match read_alternatives::<LifetimePolicy, D>(alloc, deserializer)? {
-            Either::This(value) => Ok(LifetimePolicy::DeleteOnClose(value)),
-            Either::Other(Either::This(value)) => Ok(LifetimePolicy::DeleteOnNoLinks(value)),
-            Either::Other(Either::Other(Either::This(value))) => Ok(
-                LifetimePolicy::DeleteOnNoMessages(value),
-            ),
-            Either::Other(Either::Other(Either::Other(Either::This(value)))) => Ok(
-                LifetimePolicy::DeleteOnNoLinksOrMessages(value),
-            ),
-            Either::Other(Either::Other(Either::Other(Either::Other(never)))) => match never {},
-        }
-    }
-
-    fn read_encoded(
-        alloc: Global,
-        code: u8,
-        input: &mut &[u8],
-        depth: u16,
-    ) -> Result<LifetimePolicy, GaveUp> {
-        match read_alternatives_encoded::<LifetimePolicy>(alloc, code, input, depth)? {
             Either::This(value) => Ok(LifetimePolicy::DeleteOnClose(value)),
             Either::Other(Either::This(value)) => Ok(LifetimePolicy::DeleteOnNoLinks(value)),
             Either::Other(Either::Other(Either::This(value))) => Ok(

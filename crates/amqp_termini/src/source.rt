@@ -10,7 +10,7 @@ use serde_amqp::primitives::{Multiple, OrderedMap, Symbol};
 ///
 /// # Encoding
 /// A list of the fields, described by the code 0x28.
-// amqp: encoding = "list", code = 0x28, name = "amqp:source:list", rename_all = "kebab-case"
+// amqp: encoding = "list", code = 0x28, name = "amqp:source:list", rename_all = "kebab-case", no_one_pass
 #[derive(Debug, PartialEq, Drop)]
 pub struct Source {
     /// The node.
@@ -68,10 +68,9 @@ impl Source {
 
 // amqp: the impls below are written by tools/derive from the annotations above
 use serde_amqp::derive::{
-    Composite, Deserialize, DeserializeSeed, Deserializer, FieldSeeds, FieldValues, GaveUp, Global,
-    ListOf, ListSeed, Optional, Record, RoundTrip, RoundTripComposite, Serialize,
-    SerializeCompounds, Serializer, fields, laws, named, read, read_composite_type,
-    read_composite_type_encoded, read_parts_encoded,
+    Composite, Deserialize, DeserializeSeed, Deserializer, FieldSeeds, FieldValues, Global, ListOf,
+    ListSeed, Optional, Record, RoundTrip, RoundTripComposite, Serialize, SerializeCompounds,
+    Serializer, fields, laws, named, read, read_composite_type,
 };
 
 impl Serialize for Source {
@@ -251,74 +250,6 @@ impl Composite for Source {
             capabilities,
         })
     }
-
-    fn read_body_encoded(
-        alloc: Global,
-        code: u8,
-        input: &mut &[u8],
-        depth: u16,
-    ) -> Result<Source, GaveUp> {
-        let seed = ListSeed(
-            named! { "address"?, "durable"?, "expiry-policy"?, "timeout"?, "dynamic"?, "dynamic-node-properties"?, "distribution-mode"?, "filter"?, "default-outcome"?, "outcomes"?, "capabilities"? },
-        );
-        let FieldValues {
-            value: address,
-            rest,
-        } = read_parts_encoded::<Source, _>(alloc, code, input, depth, seed)?;
-        let FieldValues {
-            value: durable,
-            rest,
-        } = rest;
-        let FieldValues {
-            value: expiry_policy,
-            rest,
-        } = rest;
-        let FieldValues {
-            value: timeout,
-            rest,
-        } = rest;
-        let FieldValues {
-            value: dynamic,
-            rest,
-        } = rest;
-        let FieldValues {
-            value: dynamic_node_properties,
-            rest,
-        } = rest;
-        let FieldValues {
-            value: distribution_mode,
-            rest,
-        } = rest;
-        let FieldValues {
-            value: filter,
-            rest,
-        } = rest;
-        let FieldValues {
-            value: default_outcome,
-            rest,
-        } = rest;
-        let FieldValues {
-            value: outcomes,
-            rest,
-        } = rest;
-        let FieldValues {
-            value: capabilities,
-            rest: (),
-        } = rest;
-        Ok(Source {
-            address,
-            durable,
-            expiry_policy,
-            timeout,
-            dynamic,
-            dynamic_node_properties,
-            distribution_mode,
-            filter,
-            default_outcome,
-            outcomes,
-            capabilities,
-        })
-    }
 }
 
 impl Deserialize for Source {
@@ -335,15 +266,6 @@ impl Deserialize for Source {
 
     fn deserialize<D: Deserializer>(alloc: Global, deserializer: D) -> Result<Source, D::Error> {
         read_composite_type::<Source, D>(alloc, deserializer)
-    }
-
-    fn read_encoded(
-        alloc: Global,
-        code: u8,
-        input: &mut &[u8],
-        depth: u16,
-    ) -> Result<Source, GaveUp> {
-        read_composite_type_encoded::<Source>(alloc, code, input, depth)
     }
 }
 

@@ -9,7 +9,7 @@ use serde_amqp::primitives::{Multiple, OrderedMap, Symbol};
 ///
 /// # Encoding
 /// A list of the fields, described by the code 0x29.
-// amqp: encoding = "list", code = 0x29, name = "amqp:target:list", rename_all = "kebab-case"
+// amqp: encoding = "list", code = 0x29, name = "amqp:target:list", rename_all = "kebab-case", no_one_pass
 #[derive(Debug, PartialEq, Drop)]
 pub struct Target {
     /// The node.
@@ -59,10 +59,9 @@ impl Target {
 
 // amqp: the impls below are written by tools/derive from the annotations above
 use serde_amqp::derive::{
-    Composite, Deserialize, DeserializeSeed, Deserializer, FieldSeeds, FieldValues, GaveUp, Global,
-    ListOf, ListSeed, Optional, Record, RoundTrip, RoundTripComposite, Serialize,
-    SerializeCompounds, Serializer, fields, laws, named, read, read_composite_type,
-    read_composite_type_encoded, read_parts_encoded,
+    Composite, Deserialize, DeserializeSeed, Deserializer, FieldSeeds, FieldValues, Global, ListOf,
+    ListSeed, Optional, Record, RoundTrip, RoundTripComposite, Serialize, SerializeCompounds,
+    Serializer, fields, laws, named, read, read_composite_type,
 };
 
 impl Serialize for Target {
@@ -195,54 +194,6 @@ impl Composite for Target {
             capabilities,
         })
     }
-
-    fn read_body_encoded(
-        alloc: Global,
-        code: u8,
-        input: &mut &[u8],
-        depth: u16,
-    ) -> Result<Target, GaveUp> {
-        let seed = ListSeed(
-            named! { "address"?, "durable"?, "expiry-policy"?, "timeout"?, "dynamic"?, "dynamic-node-properties"?, "capabilities"? },
-        );
-        let FieldValues {
-            value: address,
-            rest,
-        } = read_parts_encoded::<Target, _>(alloc, code, input, depth, seed)?;
-        let FieldValues {
-            value: durable,
-            rest,
-        } = rest;
-        let FieldValues {
-            value: expiry_policy,
-            rest,
-        } = rest;
-        let FieldValues {
-            value: timeout,
-            rest,
-        } = rest;
-        let FieldValues {
-            value: dynamic,
-            rest,
-        } = rest;
-        let FieldValues {
-            value: dynamic_node_properties,
-            rest,
-        } = rest;
-        let FieldValues {
-            value: capabilities,
-            rest: (),
-        } = rest;
-        Ok(Target {
-            address,
-            durable,
-            expiry_policy,
-            timeout,
-            dynamic,
-            dynamic_node_properties,
-            capabilities,
-        })
-    }
 }
 
 impl Deserialize for Target {
@@ -259,15 +210,6 @@ impl Deserialize for Target {
 
     fn deserialize<D: Deserializer>(alloc: Global, deserializer: D) -> Result<Target, D::Error> {
         read_composite_type::<Target, D>(alloc, deserializer)
-    }
-
-    fn read_encoded(
-        alloc: Global,
-        code: u8,
-        input: &mut &[u8],
-        depth: u16,
-    ) -> Result<Target, GaveUp> {
-        read_composite_type_encoded::<Target>(alloc, code, input, depth)
     }
 }
 

@@ -6,7 +6,7 @@ use amqp_common::AmqpError;
 ///
 /// # Encoding
 /// A list of the fields, described by the code 0x16.
-// amqp: encoding = "list", code = 0x16, name = "amqp:detach:list", rename_all = "kebab-case"
+// amqp: encoding = "list", code = 0x16, name = "amqp:detach:list", rename_all = "kebab-case", no_one_pass
 #[derive(Debug, PartialEq, Drop)]
 pub struct Detach {
     /// The link.
@@ -22,7 +22,7 @@ pub struct Detach {
 ///
 /// # Encoding
 /// A list of the fields, described by the code 0x17.
-// amqp: encoding = "list", code = 0x17, name = "amqp:end:list", rename_all = "kebab-case"
+// amqp: encoding = "list", code = 0x17, name = "amqp:end:list", rename_all = "kebab-case", no_one_pass
 #[derive(Debug, PartialEq, Drop)]
 pub struct End {
     /// Why the session ends, if there is an error.
@@ -33,7 +33,7 @@ pub struct End {
 ///
 /// # Encoding
 /// A list of the fields, described by the code 0x18.
-// amqp: encoding = "list", code = 0x18, name = "amqp:close:list", rename_all = "kebab-case"
+// amqp: encoding = "list", code = 0x18, name = "amqp:close:list", rename_all = "kebab-case", no_one_pass
 #[derive(Debug, PartialEq, Drop)]
 pub struct Close {
     /// Why the connection is closed, if there is an error.
@@ -42,10 +42,9 @@ pub struct Close {
 
 // amqp: the impls below are written by tools/derive from the annotations above
 use serde_amqp::derive::{
-    Composite, Deserialize, DeserializeSeed, Deserializer, FieldSeeds, FieldValues, GaveUp, Global,
-    ListOf, ListSeed, Optional, Record, Required, RoundTrip, RoundTripComposite, Serialize,
+    Composite, Deserialize, DeserializeSeed, Deserializer, FieldSeeds, FieldValues, Global, ListOf,
+    ListSeed, Optional, Record, Required, RoundTrip, RoundTripComposite, Serialize,
     SerializeCompounds, Serializer, fields, laws, named, read, read_composite_type,
-    read_composite_type_encoded, read_parts_encoded,
 };
 
 impl Serialize for Detach {
@@ -132,32 +131,6 @@ impl Composite for Detach {
             error,
         })
     }
-
-    fn read_body_encoded(
-        alloc: Global,
-        code: u8,
-        input: &mut &[u8],
-        depth: u16,
-    ) -> Result<Detach, GaveUp> {
-        let seed = ListSeed(named! { "handle", "closed"?, "error"? });
-        let FieldValues {
-            value: handle,
-            rest,
-        } = read_parts_encoded::<Detach, _>(alloc, code, input, depth, seed)?;
-        let FieldValues {
-            value: closed,
-            rest,
-        } = rest;
-        let FieldValues {
-            value: error,
-            rest: (),
-        } = rest;
-        Ok(Detach {
-            handle,
-            closed,
-            error,
-        })
-    }
 }
 
 impl Deserialize for Detach {
@@ -174,15 +147,6 @@ impl Deserialize for Detach {
 
     fn deserialize<D: Deserializer>(alloc: Global, deserializer: D) -> Result<Detach, D::Error> {
         read_composite_type::<Detach, D>(alloc, deserializer)
-    }
-
-    fn read_encoded(
-        alloc: Global,
-        code: u8,
-        input: &mut &[u8],
-        depth: u16,
-    ) -> Result<Detach, GaveUp> {
-        read_composite_type_encoded::<Detach>(alloc, code, input, depth)
     }
 }
 
@@ -276,20 +240,6 @@ impl Composite for End {
         } = read::<End, D, _>(alloc, deserializer, ListSeed(named! { "error"? }))?;
         Ok(End { error })
     }
-
-    fn read_body_encoded(
-        alloc: Global,
-        code: u8,
-        input: &mut &[u8],
-        depth: u16,
-    ) -> Result<End, GaveUp> {
-        let seed = ListSeed(named! { "error"? });
-        let FieldValues {
-            value: error,
-            rest: (),
-        } = read_parts_encoded::<End, _>(alloc, code, input, depth, seed)?;
-        Ok(End { error })
-    }
 }
 
 impl Deserialize for End {
@@ -306,10 +256,6 @@ impl Deserialize for End {
 
     fn deserialize<D: Deserializer>(alloc: Global, deserializer: D) -> Result<End, D::Error> {
         read_composite_type::<End, D>(alloc, deserializer)
-    }
-
-    fn read_encoded(alloc: Global, code: u8, input: &mut &[u8], depth: u16) -> Result<End, GaveUp> {
-        read_composite_type_encoded::<End>(alloc, code, input, depth)
     }
 }
 
@@ -388,20 +334,6 @@ impl Composite for Close {
         } = read::<Close, D, _>(alloc, deserializer, ListSeed(named! { "error"? }))?;
         Ok(Close { error })
     }
-
-    fn read_body_encoded(
-        alloc: Global,
-        code: u8,
-        input: &mut &[u8],
-        depth: u16,
-    ) -> Result<Close, GaveUp> {
-        let seed = ListSeed(named! { "error"? });
-        let FieldValues {
-            value: error,
-            rest: (),
-        } = read_parts_encoded::<Close, _>(alloc, code, input, depth, seed)?;
-        Ok(Close { error })
-    }
 }
 
 impl Deserialize for Close {
@@ -418,15 +350,6 @@ impl Deserialize for Close {
 
     fn deserialize<D: Deserializer>(alloc: Global, deserializer: D) -> Result<Close, D::Error> {
         read_composite_type::<Close, D>(alloc, deserializer)
-    }
-
-    fn read_encoded(
-        alloc: Global,
-        code: u8,
-        input: &mut &[u8],
-        depth: u16,
-    ) -> Result<Close, GaveUp> {
-        read_composite_type_encoded::<Close>(alloc, code, input, depth)
     }
 }
 

@@ -10,7 +10,7 @@ use serde_amqp::primitives::{ByteBuf, Multiple, OrderedMap, Symbol};
 ///
 /// # Encoding
 /// A list of the fields, described by the code 0x12.
-// amqp: encoding = "list", code = 0x12, name = "amqp:attach:list", rename_all = "kebab-case"
+// amqp: encoding = "list", code = 0x12, name = "amqp:attach:list", rename_all = "kebab-case", no_one_pass
 #[derive(Debug, PartialEq, Drop)]
 pub struct Attach {
     /// The name of the link.
@@ -73,10 +73,9 @@ impl Attach {
 
 // amqp: the impls below are written by tools/derive from the annotations above
 use serde_amqp::derive::{
-    Composite, Deserialize, DeserializeSeed, Deserializer, FieldSeeds, FieldValues, GaveUp, Global,
-    ListOf, ListSeed, Optional, Record, Required, RoundTrip, RoundTripComposite, Serialize,
+    Composite, Deserialize, DeserializeSeed, Deserializer, FieldSeeds, FieldValues, Global, ListOf,
+    ListSeed, Optional, Record, Required, RoundTrip, RoundTripComposite, Serialize,
     SerializeCompounds, Serializer, fields, laws, named, read, read_composite_type,
-    read_composite_type_encoded, read_parts_encoded,
 };
 
 impl Serialize for Attach {
@@ -286,85 +285,6 @@ impl Composite for Attach {
             properties,
         })
     }
-
-    fn read_body_encoded(
-        alloc: Global,
-        code: u8,
-        input: &mut &[u8],
-        depth: u16,
-    ) -> Result<Attach, GaveUp> {
-        let seed = ListSeed(
-            named! { "name", "handle", "role", "snd-settle-mode"?, "rcv-settle-mode"?, "source"?, "target"?, "unsettled"?, "incomplete-unsettled"?, "initial-delivery-count"?, "max-message-size"?, "offered-capabilities"?, "desired-capabilities"?, "properties"? },
-        );
-        let FieldValues { value: name, rest } = read_parts_encoded::<Attach, _>(
-            alloc, code, input, depth, seed,
-        )?;
-        let FieldValues {
-            value: handle,
-            rest,
-        } = rest;
-        let FieldValues { value: role, rest } = rest;
-        let FieldValues {
-            value: snd_settle_mode,
-            rest,
-        } = rest;
-        let FieldValues {
-            value: rcv_settle_mode,
-            rest,
-        } = rest;
-        let FieldValues {
-            value: source,
-            rest,
-        } = rest;
-        let FieldValues {
-            value: target,
-            rest,
-        } = rest;
-        let FieldValues {
-            value: unsettled,
-            rest,
-        } = rest;
-        let FieldValues {
-            value: incomplete_unsettled,
-            rest,
-        } = rest;
-        let FieldValues {
-            value: initial_delivery_count,
-            rest,
-        } = rest;
-        let FieldValues {
-            value: max_message_size,
-            rest,
-        } = rest;
-        let FieldValues {
-            value: offered_capabilities,
-            rest,
-        } = rest;
-        let FieldValues {
-            value: desired_capabilities,
-            rest,
-        } = rest;
-        let FieldValues {
-            value: properties,
-            rest: (),
-        } = rest;
-        Ok(Attach {
-            name,
-            handle,
-            role,
-            snd_settle_mode,
-            rcv_settle_mode,
-            source,
-            target,
-            unsettled,
-            incomplete_unsettled,
-            initial_delivery_count,
-            max_message_size,
-            offered_capabilities,
-            desired_capabilities,
-            properties,
-        })
-    }
 }
 
 impl Deserialize for Attach {
@@ -381,15 +301,6 @@ impl Deserialize for Attach {
 
     fn deserialize<D: Deserializer>(alloc: Global, deserializer: D) -> Result<Attach, D::Error> {
         read_composite_type::<Attach, D>(alloc, deserializer)
-    }
-
-    fn read_encoded(
-        alloc: Global,
-        code: u8,
-        input: &mut &[u8],
-        depth: u16,
-    ) -> Result<Attach, GaveUp> {
-        read_composite_type_encoded::<Attach>(alloc, code, input, depth)
     }
 }
 

@@ -7,7 +7,7 @@ use serde_amqp::primitives::{Multiple, OrderedMap, Symbol};
 ///
 /// # Encoding
 /// A list of the fields, described by the code 0x11.
-// amqp: encoding = "list", code = 0x11, name = "amqp:begin:list", rename_all = "kebab-case"
+// amqp: encoding = "list", code = 0x11, name = "amqp:begin:list", rename_all = "kebab-case", no_one_pass
 #[derive(Debug, PartialEq, Drop)]
 pub struct Begin {
     /// The channel of the begin that this one answers.
@@ -31,10 +31,9 @@ pub struct Begin {
 
 // amqp: the impls below are written by tools/derive from the annotations above
 use serde_amqp::derive::{
-    Composite, Deserialize, DeserializeSeed, Deserializer, FieldSeeds, FieldValues, GaveUp, Global,
-    ListOf, ListSeed, Optional, Record, Required, RoundTrip, RoundTripComposite, Serialize,
+    Composite, Deserialize, DeserializeSeed, Deserializer, FieldSeeds, FieldValues, Global, ListOf,
+    ListSeed, Optional, Record, Required, RoundTrip, RoundTripComposite, Serialize,
     SerializeCompounds, Serializer, fields, laws, named, read, read_composite_type,
-    read_composite_type_encoded, read_parts_encoded,
 };
 
 impl Serialize for Begin {
@@ -181,59 +180,6 @@ impl Composite for Begin {
             properties,
         })
     }
-
-    fn read_body_encoded(
-        alloc: Global,
-        code: u8,
-        input: &mut &[u8],
-        depth: u16,
-    ) -> Result<Begin, GaveUp> {
-        let seed = ListSeed(
-            named! { "remote-channel"?, "next-outgoing-id", "incoming-window", "outgoing-window", "handle-max"?, "offered-capabilities"?, "desired-capabilities"?, "properties"? },
-        );
-        let FieldValues {
-            value: remote_channel,
-            rest,
-        } = read_parts_encoded::<Begin, _>(alloc, code, input, depth, seed)?;
-        let FieldValues {
-            value: next_outgoing_id,
-            rest,
-        } = rest;
-        let FieldValues {
-            value: incoming_window,
-            rest,
-        } = rest;
-        let FieldValues {
-            value: outgoing_window,
-            rest,
-        } = rest;
-        let FieldValues {
-            value: handle_max,
-            rest,
-        } = rest;
-        let FieldValues {
-            value: offered_capabilities,
-            rest,
-        } = rest;
-        let FieldValues {
-            value: desired_capabilities,
-            rest,
-        } = rest;
-        let FieldValues {
-            value: properties,
-            rest: (),
-        } = rest;
-        Ok(Begin {
-            remote_channel,
-            next_outgoing_id,
-            incoming_window,
-            outgoing_window,
-            handle_max,
-            offered_capabilities,
-            desired_capabilities,
-            properties,
-        })
-    }
 }
 
 impl Deserialize for Begin {
@@ -250,15 +196,6 @@ impl Deserialize for Begin {
 
     fn deserialize<D: Deserializer>(alloc: Global, deserializer: D) -> Result<Begin, D::Error> {
         read_composite_type::<Begin, D>(alloc, deserializer)
-    }
-
-    fn read_encoded(
-        alloc: Global,
-        code: u8,
-        input: &mut &[u8],
-        depth: u16,
-    ) -> Result<Begin, GaveUp> {
-        read_composite_type_encoded::<Begin>(alloc, code, input, depth)
     }
 }
 
