@@ -113,14 +113,18 @@ pub(crate) fn piece_value(alloc: Global, kind: Kind, payload: &[u8]) -> Result<V
 }
 
 /// Appends the text of a value as `Display` writes it, with the characters escaped that a terminal
-/// takes as commands. `shown` gets the text before that.
-pub(crate) fn push_value(text: &mut String, shown: &mut String, value: &Value) -> Result<(), Fault>
+/// takes as commands. `scratch` gets the text before that.
+pub(crate) fn push_value(
+    text: &mut String,
+    scratch: &mut String,
+    value: &Value,
+) -> Result<(), Fault>
     ensures text { OnOk result
         (string_bytes text.new ≡ string_bytes text.old ++ safe (shown (tree_of value.now))) }
 {
-    shown.clear();
-    write!(shown, "{value}")?;
-    push_safe(text, shown.as_str())
+    scratch.clear();
+    write!(scratch, "{value}")?;
+    push_safe(text, scratch.as_str())
 }
 
 /// Appends a text with the characters escaped that a terminal takes as commands.
