@@ -54,7 +54,29 @@ def record(t):
         alias = f"/// The fields of [`{t.name}`], as they are read.\ntype {t.name}Fields = {fields_type(t.fields)};\n\n"
     term = f'λ {"x" if t.fields else "_"}. {parts}'
     head = uses(term) + "\n" if uses(term) else ""
-    return f"{alias}impl Record for {t.name} {{\n{head}    type Values = {values};\n\n    ghost parts = {{ {term} }};\n}}\n"
+    out = f"{alias}impl Record for {t.name} {{\n{head}    type Values = {values};\n\n    ghost parts = {{ {term} }};\n}}\n"
+    if not by_parts(t):
+        return out
+    return out + f"\nimpl FromParts for {t.name} {{\n    fn from_parts(parts: {values}) -> {t.name} {{\n" \
+        f"{take(t.fields, 'parts')}        {made(t)}\n    }}\n}}\n"
+
+
+def by_parts(t):
+    """Whether the value is built from the values of its fields by `from_parts`."""
+    return t.encoding != "basic" and bool(t.fields)
+
+
+def made(t):
+    """The value, of variables with the names of its fields."""
+    inside = ", ".join(f.var for f in t.fields)
+    return t.name + (f"({inside})" if t.is_tuple else f" {{ {inside} }}" if t.fields else "")
+
+
+def reader(t, function):
+    """The function that reads the fields: if the value is built from them, the one that builds it."""
+    if not by_parts(t):
+        return function
+    return "build_encoded" if function == "read_parts_encoded" else function.replace("read", "build", 1)
 
 
 def reads_after(t, tree=None):
@@ -86,13 +108,10 @@ def members(t):
 
 def build(t, call):
     """The statements that read the fields and build the struct."""
-    if t.encoding == "basic":
-        out = f"        let {t.fields[0].var} = {call};\n"
-    else:
-        out = take(t.fields, call)
-    inside = ", ".join(f.var for f in t.fields)
-    made = f"({inside})" if t.is_tuple else f" {{ {inside} }}" if t.fields else ""
-    return out + f"        Ok({t.name}{made})\n"
+    if by_parts(t):
+        return f"        {call}\n"
+    out = f"        let {t.fields[0].var} = {call}?;\n" if t.fields else take(t.fields, f"{call}?")
+    return out + f"        Ok({made(t)})\n"
 
 
 def read_bytes(t):
@@ -104,8 +123,7 @@ def read_bytes(t):
         call, said = "read_composite_encoded", f"{t.code}, "
     elif t.symbol:
         call, said = "read_named_encoded", f'"{t.symbol}", '
-    body = f"        let seed = {seed(t)};\n" + build(t, f"{call}::<{t.name}, _>(alloc, code, input, depth, {said}seed)?")
-    return read_encoded(t, body, method)
+    return read_encoded(t, build(t, f"{reader(t, call)}::<{t.name}, _>(alloc, code, input, depth, {said}{seed(t)})"), method)
 
 
 def composite(t):
@@ -116,7 +134,7 @@ def composite(t):
         "descriptor_code": t.code, "descriptor_name": f'codes "{t.symbol}"',
         "reads": f"λ t {x}. {reads_after(t, 't')}", "image": f"λ x. {image}", **others})
     out += f"    fn code() -> u64 {{\n        {t.code}\n    }}\n\n    fn name() -> &'static str {{\n        \"{t.symbol}\"\n    }}\n\n"
-    call = f"read::<{t.name}, D, _>(alloc, deserializer, {seed(t)})?" if t.fields else "read_no_fields::<D>(deserializer)?"
+    call = f'{reader(t, "read")}::<{t.name}, D, _>(alloc, deserializer, {seed(t)})' if t.fields else "read_no_fields::<D>(deserializer)"
     out += f'    fn read_body<D: Deserializer>({"" if t.fields else "_"}alloc: Global, deserializer: D) -> Result<{t.name}, D::Error> {{\n'
     out += build(t, call) + f"    }}\n{read_bytes(t)}}}\n\n"
     of = lambda name: member(t.name, "Composite", name)
@@ -144,7 +162,7 @@ def deserialize(t):
     call = "read_fields_map" if call == "read_map" else call
     said = f'{t.code}u64, ' if t.code else f'"{t.symbol}", ' if t.symbol else ""
     out += f"    fn deserialize<D: Deserializer>(alloc: Global, deserializer: D) -> Result<{t.name}, D::Error> {{\n"
-    out += build(t, f"{call}::<{t.name}, D, _>(alloc, deserializer, {said}{seed(t)})?") + "    }\n"
+    out += build(t, f"{reader(t, call)}::<{t.name}, D, _>(alloc, deserializer, {said}{seed(t)})") + "    }\n"
     return out + ("" if t.encoding == "map" else read_bytes(t)) + "}\n"
 
 

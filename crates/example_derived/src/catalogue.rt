@@ -36,9 +36,9 @@ pub struct Shop {
 
 // amqp: the impls below are written by tools/derive from the annotations above
 use serde_amqp::derive::{
-    Defaulted, Deserialize, Deserializer, FieldSeeds, FieldValues, Global, MapOf, Name,
+    Defaulted, Deserialize, Deserializer, FieldSeeds, FieldValues, FromParts, Global, MapOf, Name,
     NamedRecord, Optional, Record, Required, RoundTrip, Serialize, SerializeCompounds, Serializer,
-    fields, laws, named, read_composite_map, read_fields_map, read_named_map,
+    build_composite_map, build_fields_map, build_named_map, fields, laws, named,
 };
 
 impl Serialize for Product {
@@ -91,6 +91,39 @@ impl Record for Product {
     ghost parts = { λ x. x.product_name ▸ x.version ▸ x.platform ▸ x.count ▸ x.notes ▸ x.stock ▸ x.size ▸ tt };
 }
 
+impl FromParts for Product {
+    fn from_parts(parts: <ProductFields as FieldSeeds>::Values) -> Product {
+        let FieldValues {
+            value: product_name,
+            rest,
+        } = parts;
+        let FieldValues {
+            value: version,
+            rest,
+        } = rest;
+        let FieldValues {
+            value: platform,
+            rest,
+        } = rest;
+        let FieldValues { value: count, rest } = rest;
+        let FieldValues { value: notes, rest } = rest;
+        let FieldValues { value: stock, rest } = rest;
+        let FieldValues {
+            value: size,
+            rest: (),
+        } = rest;
+        Product {
+            product_name,
+            version,
+            platform,
+            count,
+            notes,
+            stock,
+            size,
+        }
+    }
+}
+
 impl NamedRecord for Product {
     ghost use Rattle.std.specs.Prelude.{[], ◌∷◌, codes};
 
@@ -120,39 +153,12 @@ impl Deserialize for Product {
     ghost same = { λ x y. ⟦<ProductFields as FieldSeeds>⟧.same (⟦<Product as Record>⟧.parts x) (⟦<Product as Record>⟧.parts y) };
 
     fn deserialize<D: Deserializer>(alloc: Global, deserializer: D) -> Result<Product, D::Error> {
-        let FieldValues {
-            value: product_name,
-            rest,
-        } = read_composite_map::<Product, D, _>(
+        build_composite_map::<Product, D, _>(
             alloc,
             deserializer,
             0x15u64,
             named! { "product-name", "version"?, "platform"?, "number", "notes"?, "stock" = 0u16, "size"? },
-        )?;
-        let FieldValues {
-            value: version,
-            rest,
-        } = rest;
-        let FieldValues {
-            value: platform,
-            rest,
-        } = rest;
-        let FieldValues { value: count, rest } = rest;
-        let FieldValues { value: notes, rest } = rest;
-        let FieldValues { value: stock, rest } = rest;
-        let FieldValues {
-            value: size,
-            rest: (),
-        } = rest;
-        Ok(Product {
-            product_name,
-            version,
-            platform,
-            count,
-            notes,
-            stock,
-            size,
-        })
+        )
     }
 }
 
@@ -207,6 +213,17 @@ impl Record for Contact {
     ghost parts = { λ x. x.name ▸ x.telephone ▸ tt };
 }
 
+impl FromParts for Contact {
+    fn from_parts(parts: <ContactFields as FieldSeeds>::Values) -> Contact {
+        let FieldValues { value: name, rest } = parts;
+        let FieldValues {
+            value: telephone,
+            rest: (),
+        } = rest;
+        Contact { name, telephone }
+    }
+}
+
 impl NamedRecord for Contact {
     ghost use Rattle.std.specs.Prelude.{[], ◌∷◌, codes};
 
@@ -231,16 +248,7 @@ impl Deserialize for Contact {
     ghost same = { λ x y. ⟦<ContactFields as FieldSeeds>⟧.same (⟦<Contact as Record>⟧.parts x) (⟦<Contact as Record>⟧.parts y) };
 
     fn deserialize<D: Deserializer>(alloc: Global, deserializer: D) -> Result<Contact, D::Error> {
-        let FieldValues { value: name, rest } = read_fields_map::<Contact, D, _>(
-            alloc,
-            deserializer,
-            named! { "name", "telephone"? },
-        )?;
-        let FieldValues {
-            value: telephone,
-            rest: (),
-        } = rest;
-        Ok(Contact { name, telephone })
+        build_fields_map::<Contact, D, _>(alloc, deserializer, named! { "name", "telephone"? })
     }
 }
 
@@ -281,6 +289,20 @@ impl Record for Shop {
     ghost parts = { λ x. x.number ▸ x.motto ▸ tt };
 }
 
+impl FromParts for Shop {
+    fn from_parts(parts: <ShopFields as FieldSeeds>::Values) -> Shop {
+        let FieldValues {
+            value: number,
+            rest,
+        } = parts;
+        let FieldValues {
+            value: motto,
+            rest: (),
+        } = rest;
+        Shop { number, motto }
+    }
+}
+
 impl NamedRecord for Shop {
     ghost use Rattle.std.specs.Prelude.{[], ◌∷◌, codes};
 
@@ -305,20 +327,12 @@ impl Deserialize for Shop {
     ghost same = { λ x y. ⟦<ShopFields as FieldSeeds>⟧.same (⟦<Shop as Record>⟧.parts x) (⟦<Shop as Record>⟧.parts y) };
 
     fn deserialize<D: Deserializer>(alloc: Global, deserializer: D) -> Result<Shop, D::Error> {
-        let FieldValues {
-            value: number,
-            rest,
-        } = read_named_map::<Shop, D, _>(
+        build_named_map::<Shop, D, _>(
             alloc,
             deserializer,
             "shop:shop",
             named! { "number", "motto"? },
-        )?;
-        let FieldValues {
-            value: motto,
-            rest: (),
-        } = rest;
-        Ok(Shop { number, motto })
+        )
     }
 }
 

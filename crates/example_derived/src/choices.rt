@@ -576,8 +576,13 @@ impl Composite for Tag {
         input: &mut &[u8],
         depth: u16,
     ) -> Result<Tag, GaveUp> {
-        let seed = TypeSeed(PhantomData::<ByteBuf>);
-        let part0 = read_parts_encoded::<Tag, _>(alloc, code, input, depth, seed)?;
+        let part0 = read_parts_encoded::<Tag, _>(
+            alloc,
+            code,
+            input,
+            depth,
+            TypeSeed(PhantomData::<ByteBuf>),
+        )?;
         Ok(Tag(part0))
     }
 }

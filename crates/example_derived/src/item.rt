@@ -31,9 +31,9 @@ pub struct Item {
 
 // amqp: the impls below are written by tools/derive from the annotations above
 use serde_amqp::derive::{
-    Defaulted, Deserialize, DeserializeSeed, Deserializer, FieldSeeds, FieldValues, GaveUp, Global,
-    ListOf, ListSeed, Name, Optional, Record, Required, RoundTrip, Serialize, SerializeCompounds,
-    Serializer, fields, laws, named, read_named, read_named_encoded,
+    Defaulted, Deserialize, DeserializeSeed, Deserializer, FieldSeeds, FieldValues, FromParts,
+    GaveUp, Global, ListOf, ListSeed, Name, Optional, Record, Required, RoundTrip, Serialize,
+    SerializeCompounds, Serializer, build_named, build_named_encoded, fields, laws, named,
 };
 
 impl Serialize for Item {
@@ -160,6 +160,71 @@ impl Record for Item {
     ghost parts = { λ x. x.id ▸ x.title ▸ x.kind ▸ x.made ▸ x.size ▸ x.width ▸ x.height ▸ x.depth ▸ x.weight ▸ x.colour ▸ x.maker ▸ x.place ▸ x.sold ▸ x.price ▸ x.tax ▸ x.stock ▸ x.rating ▸ x.votes ▸ x.labels ▸ x.note ▸ tt };
 }
 
+impl FromParts for Item {
+    fn from_parts(parts: <ItemFields as FieldSeeds>::Values) -> Item {
+        let FieldValues { value: id, rest } = parts;
+        let FieldValues { value: title, rest } = rest;
+        let FieldValues { value: kind, rest } = rest;
+        let FieldValues { value: made, rest } = rest;
+        let FieldValues { value: size, rest } = rest;
+        let FieldValues { value: width, rest } = rest;
+        let FieldValues {
+            value: height,
+            rest,
+        } = rest;
+        let FieldValues { value: depth, rest } = rest;
+        let FieldValues {
+            value: weight,
+            rest,
+        } = rest;
+        let FieldValues {
+            value: colour,
+            rest,
+        } = rest;
+        let FieldValues { value: maker, rest } = rest;
+        let FieldValues { value: place, rest } = rest;
+        let FieldValues { value: sold, rest } = rest;
+        let FieldValues { value: price, rest } = rest;
+        let FieldValues { value: tax, rest } = rest;
+        let FieldValues { value: stock, rest } = rest;
+        let FieldValues {
+            value: rating,
+            rest,
+        } = rest;
+        let FieldValues { value: votes, rest } = rest;
+        let FieldValues {
+            value: labels,
+            rest,
+        } = rest;
+        let FieldValues {
+            value: note,
+            rest: (),
+        } = rest;
+        Item {
+            id,
+            title,
+            kind,
+            made,
+            size,
+            width,
+            height,
+            depth,
+            weight,
+            colour,
+            maker,
+            place,
+            sold,
+            price,
+            tax,
+            stock,
+            rating,
+            votes,
+            labels,
+            note,
+        }
+    }
+}
+
 impl Deserialize for Item {
     ghost use Rattle.std.specs.Prelude.{codes};
     ghost use Rattle.serde_amqp.specs.Derive.{name, described, OnDescribed, OnFields, ReadsRequired, ReadsOptional, NoMoreFields, ReadsDefaulted};
@@ -194,73 +259,14 @@ impl Deserialize for Item {
     ghost same = { λ x y. ⟦<ListSeed<ItemFields> as DeserializeSeed>⟧.same (⟦<Item as Record>⟧.parts x) (⟦<Item as Record>⟧.parts y) };
 
     fn deserialize<D: Deserializer>(alloc: Global, deserializer: D) -> Result<Item, D::Error> {
-        let FieldValues { value: id, rest } = read_named::<Item, D, _>(
+        build_named::<Item, D, _>(
             alloc,
             deserializer,
             "shop:item",
             ListSeed(
                 named! { "id", "title", "kind", "made", "size", "width", "height", "depth"?, "weight"?, "colour"?, "maker"?, "place"?, "sold", "price", "tax" = 20u16, "stock", "rating"?, "votes"?, "labels"?, "note"? },
             ),
-        )?;
-        let FieldValues { value: title, rest } = rest;
-        let FieldValues { value: kind, rest } = rest;
-        let FieldValues { value: made, rest } = rest;
-        let FieldValues { value: size, rest } = rest;
-        let FieldValues { value: width, rest } = rest;
-        let FieldValues {
-            value: height,
-            rest,
-        } = rest;
-        let FieldValues { value: depth, rest } = rest;
-        let FieldValues {
-            value: weight,
-            rest,
-        } = rest;
-        let FieldValues {
-            value: colour,
-            rest,
-        } = rest;
-        let FieldValues { value: maker, rest } = rest;
-        let FieldValues { value: place, rest } = rest;
-        let FieldValues { value: sold, rest } = rest;
-        let FieldValues { value: price, rest } = rest;
-        let FieldValues { value: tax, rest } = rest;
-        let FieldValues { value: stock, rest } = rest;
-        let FieldValues {
-            value: rating,
-            rest,
-        } = rest;
-        let FieldValues { value: votes, rest } = rest;
-        let FieldValues {
-            value: labels,
-            rest,
-        } = rest;
-        let FieldValues {
-            value: note,
-            rest: (),
-        } = rest;
-        Ok(Item {
-            id,
-            title,
-            kind,
-            made,
-            size,
-            width,
-            height,
-            depth,
-            weight,
-            colour,
-            maker,
-            place,
-            sold,
-            price,
-            tax,
-            stock,
-            rating,
-            votes,
-            labels,
-            note,
-        })
+        )
     }
 
     fn read_encoded(
@@ -269,76 +275,16 @@ impl Deserialize for Item {
         input: &mut &[u8],
         depth: u16,
     ) -> Result<Item, GaveUp> {
-        let seed = ListSeed(
-            named! { "id", "title", "kind", "made", "size", "width", "height", "depth"?, "weight"?, "colour"?, "maker"?, "place"?, "sold", "price", "tax" = 20u16, "stock", "rating"?, "votes"?, "labels"?, "note"? },
-        );
-        let FieldValues { value: id, rest } = read_named_encoded::<Item, _>(
+        build_named_encoded::<Item, _>(
             alloc,
             code,
             input,
             depth,
             "shop:item",
-            seed,
-        )?;
-        let FieldValues { value: title, rest } = rest;
-        let FieldValues { value: kind, rest } = rest;
-        let FieldValues { value: made, rest } = rest;
-        let FieldValues { value: size, rest } = rest;
-        let FieldValues { value: width, rest } = rest;
-        let FieldValues {
-            value: height,
-            rest,
-        } = rest;
-        let FieldValues { value: depth, rest } = rest;
-        let FieldValues {
-            value: weight,
-            rest,
-        } = rest;
-        let FieldValues {
-            value: colour,
-            rest,
-        } = rest;
-        let FieldValues { value: maker, rest } = rest;
-        let FieldValues { value: place, rest } = rest;
-        let FieldValues { value: sold, rest } = rest;
-        let FieldValues { value: price, rest } = rest;
-        let FieldValues { value: tax, rest } = rest;
-        let FieldValues { value: stock, rest } = rest;
-        let FieldValues {
-            value: rating,
-            rest,
-        } = rest;
-        let FieldValues { value: votes, rest } = rest;
-        let FieldValues {
-            value: labels,
-            rest,
-        } = rest;
-        let FieldValues {
-            value: note,
-            rest: (),
-        } = rest;
-        Ok(Item {
-            id,
-            title,
-            kind,
-            made,
-            size,
-            width,
-            height,
-            depth,
-            weight,
-            colour,
-            maker,
-            place,
-            sold,
-            price,
-            tax,
-            stock,
-            rating,
-            votes,
-            labels,
-            note,
-        })
+            ListSeed(
+                named! { "id", "title", "kind", "made", "size", "width", "height", "depth"?, "weight"?, "colour"?, "maker"?, "place"?, "sold", "price", "tax" = 20u16, "stock", "rating"?, "votes"?, "labels"?, "note"? },
+            ),
+        )
     }
 }
 

@@ -14,9 +14,9 @@ pub struct Limits {
 
 // amqp: the impls below are written by tools/derive from the annotations above
 use serde_amqp::derive::{
-    Defaulted, Deserialize, DeserializeSeed, Deserializer, FieldSeeds, FieldValues, GaveUp, Global,
-    ListOf, ListSeed, Optional, Record, RoundTrip, Serialize, SerializeCompounds, Serializer,
-    fields, laws, named, read_composite, read_composite_encoded,
+    Defaulted, Deserialize, DeserializeSeed, Deserializer, FieldSeeds, FieldValues, FromParts,
+    GaveUp, Global, ListOf, ListSeed, Optional, Record, RoundTrip, Serialize, SerializeCompounds,
+    Serializer, build_composite, build_composite_encoded, fields, laws, named,
 };
 
 impl Serialize for Limits {
@@ -50,6 +50,23 @@ impl Record for Limits {
     ghost parts = { λ x. x.mechanisms ▸ x.channel_max ▸ tt };
 }
 
+impl FromParts for Limits {
+    fn from_parts(parts: <LimitsFields as FieldSeeds>::Values) -> Limits {
+        let FieldValues {
+            value: mechanisms,
+            rest,
+        } = parts;
+        let FieldValues {
+            value: channel_max,
+            rest: (),
+        } = rest;
+        Limits {
+            mechanisms,
+            channel_max,
+        }
+    }
+}
+
 impl Deserialize for Limits {
     ghost use Rattle.std.specs.Prelude.{codes};
     ghost use Rattle.serde_amqp.specs.Derive.{code, described, OnDescribed, OnFields, ReadsOptional, NoMoreFields, ReadsDefaulted};
@@ -66,23 +83,12 @@ impl Deserialize for Limits {
     ghost same = { λ x y. ⟦<ListSeed<LimitsFields> as DeserializeSeed>⟧.same (⟦<Limits as Record>⟧.parts x) (⟦<Limits as Record>⟧.parts y) };
 
     fn deserialize<D: Deserializer>(alloc: Global, deserializer: D) -> Result<Limits, D::Error> {
-        let FieldValues {
-            value: mechanisms,
-            rest,
-        } = read_composite::<Limits, D, _>(
+        build_composite::<Limits, D, _>(
             alloc,
             deserializer,
             0x19u64,
             ListSeed(named! { "mechanisms"?, "channel-max" = 65535u16 }),
-        )?;
-        let FieldValues {
-            value: channel_max,
-            rest: (),
-        } = rest;
-        Ok(Limits {
-            mechanisms,
-            channel_max,
-        })
+        )
     }
 
     fn read_encoded(
@@ -91,19 +97,14 @@ impl Deserialize for Limits {
         input: &mut &[u8],
         depth: u16,
     ) -> Result<Limits, GaveUp> {
-        let seed = ListSeed(named! { "mechanisms"?, "channel-max" = 65535u16 });
-        let FieldValues {
-            value: mechanisms,
-            rest,
-        } = read_composite_encoded::<Limits, _>(alloc, code, input, depth, 0x19, seed)?;
-        let FieldValues {
-            value: channel_max,
-            rest: (),
-        } = rest;
-        Ok(Limits {
-            mechanisms,
-            channel_max,
-        })
+        build_composite_encoded::<Limits, _>(
+            alloc,
+            code,
+            input,
+            depth,
+            0x19,
+            ListSeed(named! { "mechanisms"?, "channel-max" = 65535u16 }),
+        )
     }
 }
 

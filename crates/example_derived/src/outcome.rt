@@ -45,10 +45,11 @@ pub enum Outcome {
 // amqp: the impls below are written by tools/derive from the annotations above
 use serde_amqp::derive::{
     Alternatives, Composite, Deserialize, DeserializeSeed, Deserializer, Either, FieldSeeds,
-    FieldValues, GaveUp, Global, ListOf, ListSeed, Never, Optional, Record, Required, RoundTrip,
-    RoundTripAlternatives, RoundTripComposite, Serialize, SerializeCompounds, Serializer, fields,
-    laws, named, read, read_alternatives, read_alternatives_encoded, read_composite_type,
-    read_composite_type_encoded, read_no_fields, read_parts_encoded,
+    FieldValues, FromParts, GaveUp, Global, ListOf, ListSeed, Never, Optional, Record, Required,
+    RoundTrip, RoundTripAlternatives, RoundTripComposite, Serialize, SerializeCompounds,
+    Serializer, build, build_encoded, fields, laws, named, read_alternatives,
+    read_alternatives_encoded, read_composite_type, read_composite_type_encoded, read_no_fields,
+    read_parts_encoded,
 };
 
 impl Serialize for Accepted {
@@ -106,8 +107,7 @@ impl Composite for Accepted {
         input: &mut &[u8],
         depth: u16,
     ) -> Result<Accepted, GaveUp> {
-        let seed = ListSeed(());
-        let () = read_parts_encoded::<Accepted, _>(alloc, code, input, depth, seed)?;
+        let () = read_parts_encoded::<Accepted, _>(alloc, code, input, depth, ListSeed(()))?;
         Ok(Accepted)
     }
 }
@@ -184,6 +184,28 @@ impl Record for Failure {
     ghost parts = { λ x. x.condition ▸ x.description ▸ x.info ▸ tt };
 }
 
+impl FromParts for Failure {
+    fn from_parts(parts: <FailureFields as FieldSeeds>::Values) -> Failure {
+        let FieldValues {
+            value: condition,
+            rest,
+        } = parts;
+        let FieldValues {
+            value: description,
+            rest,
+        } = rest;
+        let FieldValues {
+            value: info,
+            rest: (),
+        } = rest;
+        Failure {
+            condition,
+            description,
+            info,
+        }
+    }
+}
+
 impl Composite for Failure {
     ghost use Rattle.std.specs.Prelude.{codes};
     ghost use Rattle.serde_amqp.specs.Derive.{OnFields, ReadsRequired, ReadsOptional, NoMoreFields};
@@ -213,27 +235,11 @@ impl Composite for Failure {
     }
 
     fn read_body<D: Deserializer>(alloc: Global, deserializer: D) -> Result<Failure, D::Error> {
-        let FieldValues {
-            value: condition,
-            rest,
-        } = read::<Failure, D, _>(
+        build::<Failure, D, _>(
             alloc,
             deserializer,
             ListSeed(named! { "condition", "description"?, "info"? }),
-        )?;
-        let FieldValues {
-            value: description,
-            rest,
-        } = rest;
-        let FieldValues {
-            value: info,
-            rest: (),
-        } = rest;
-        Ok(Failure {
-            condition,
-            description,
-            info,
-        })
+        )
     }
 
     fn read_body_encoded(
@@ -242,24 +248,13 @@ impl Composite for Failure {
         input: &mut &[u8],
         depth: u16,
     ) -> Result<Failure, GaveUp> {
-        let seed = ListSeed(named! { "condition", "description"?, "info"? });
-        let FieldValues {
-            value: condition,
-            rest,
-        } = read_parts_encoded::<Failure, _>(alloc, code, input, depth, seed)?;
-        let FieldValues {
-            value: description,
-            rest,
-        } = rest;
-        let FieldValues {
-            value: info,
-            rest: (),
-        } = rest;
-        Ok(Failure {
-            condition,
-            description,
-            info,
-        })
+        build_encoded::<Failure, _>(
+            alloc,
+            code,
+            input,
+            depth,
+            ListSeed(named! { "condition", "description"?, "info"? }),
+        )
     }
 }
 
@@ -331,6 +326,16 @@ impl Record for Rejected {
     ghost parts = { λ x. x.error ▸ tt };
 }
 
+impl FromParts for Rejected {
+    fn from_parts(parts: <RejectedFields as FieldSeeds>::Values) -> Rejected {
+        let FieldValues {
+            value: error,
+            rest: (),
+        } = parts;
+        Rejected { error }
+    }
+}
+
 impl Composite for Rejected {
     ghost use Rattle.std.specs.Prelude.{codes};
     ghost use Rattle.serde_amqp.specs.Derive.{OnFields, ReadsOptional, NoMoreFields};
@@ -358,11 +363,7 @@ impl Composite for Rejected {
     }
 
     fn read_body<D: Deserializer>(alloc: Global, deserializer: D) -> Result<Rejected, D::Error> {
-        let FieldValues {
-            value: error,
-            rest: (),
-        } = read::<Rejected, D, _>(alloc, deserializer, ListSeed(named! { "error"? }))?;
-        Ok(Rejected { error })
+        build::<Rejected, D, _>(alloc, deserializer, ListSeed(named! { "error"? }))
     }
 
     fn read_body_encoded(
@@ -371,12 +372,7 @@ impl Composite for Rejected {
         input: &mut &[u8],
         depth: u16,
     ) -> Result<Rejected, GaveUp> {
-        let seed = ListSeed(named! { "error"? });
-        let FieldValues {
-            value: error,
-            rest: (),
-        } = read_parts_encoded::<Rejected, _>(alloc, code, input, depth, seed)?;
-        Ok(Rejected { error })
+        build_encoded::<Rejected, _>(alloc, code, input, depth, ListSeed(named! { "error"? }))
     }
 }
 
@@ -452,6 +448,28 @@ impl Record for Modified {
     ghost parts = { λ x. x.delivery_failed ▸ x.undeliverable_here ▸ x.message_annotations ▸ tt };
 }
 
+impl FromParts for Modified {
+    fn from_parts(parts: <ModifiedFields as FieldSeeds>::Values) -> Modified {
+        let FieldValues {
+            value: delivery_failed,
+            rest,
+        } = parts;
+        let FieldValues {
+            value: undeliverable_here,
+            rest,
+        } = rest;
+        let FieldValues {
+            value: message_annotations,
+            rest: (),
+        } = rest;
+        Modified {
+            delivery_failed,
+            undeliverable_here,
+            message_annotations,
+        }
+    }
+}
+
 impl Composite for Modified {
     ghost use Rattle.std.specs.Prelude.{codes};
     ghost use Rattle.serde_amqp.specs.Derive.{OnFields, ReadsOptional, NoMoreFields};
@@ -481,27 +499,11 @@ impl Composite for Modified {
     }
 
     fn read_body<D: Deserializer>(alloc: Global, deserializer: D) -> Result<Modified, D::Error> {
-        let FieldValues {
-            value: delivery_failed,
-            rest,
-        } = read::<Modified, D, _>(
+        build::<Modified, D, _>(
             alloc,
             deserializer,
             ListSeed(named! { "delivery-failed"?, "undeliverable-here"?, "message-annotations"? }),
-        )?;
-        let FieldValues {
-            value: undeliverable_here,
-            rest,
-        } = rest;
-        let FieldValues {
-            value: message_annotations,
-            rest: (),
-        } = rest;
-        Ok(Modified {
-            delivery_failed,
-            undeliverable_here,
-            message_annotations,
-        })
+        )
     }
 
     fn read_body_encoded(
@@ -510,26 +512,13 @@ impl Composite for Modified {
         input: &mut &[u8],
         depth: u16,
     ) -> Result<Modified, GaveUp> {
-        let seed = ListSeed(
-            named! { "delivery-failed"?, "undeliverable-here"?, "message-annotations"? },
-        );
-        let FieldValues {
-            value: delivery_failed,
-            rest,
-        } = read_parts_encoded::<Modified, _>(alloc, code, input, depth, seed)?;
-        let FieldValues {
-            value: undeliverable_here,
-            rest,
-        } = rest;
-        let FieldValues {
-            value: message_annotations,
-            rest: (),
-        } = rest;
-        Ok(Modified {
-            delivery_failed,
-            undeliverable_here,
-            message_annotations,
-        })
+        build_encoded::<Modified, _>(
+            alloc,
+            code,
+            input,
+            depth,
+            ListSeed(named! { "delivery-failed"?, "undeliverable-here"?, "message-annotations"? }),
+        )
     }
 }
 

@@ -31,10 +31,10 @@ pub struct Report {
 
 // amqp: the impls below are written by tools/derive from the annotations above
 use serde_amqp::derive::{
-    Composite, Deserialize, DeserializeSeed, Deserializer, FieldSeeds, FieldValues, GaveUp, Global,
-    ListOf, ListSeed, Optional, Record, Required, RoundTrip, RoundTripComposite, Serialize,
-    SerializeCompounds, Serializer, fields, laws, named, read, read_composite_type,
-    read_composite_type_encoded, read_parts_encoded,
+    Composite, Deserialize, DeserializeSeed, Deserializer, FieldSeeds, FieldValues, FromParts,
+    GaveUp, Global, ListOf, ListSeed, Optional, Record, Required, RoundTrip, RoundTripComposite,
+    Serialize, SerializeCompounds, Serializer, build, build_encoded, fields, laws, named,
+    read_composite_type, read_composite_type_encoded,
 };
 
 impl Serialize for Position {
@@ -68,6 +68,28 @@ impl Record for Position {
     ghost parts = { λ x. x.latitude ▸ x.longitude ▸ x.height ▸ tt };
 }
 
+impl FromParts for Position {
+    fn from_parts(parts: <PositionFields as FieldSeeds>::Values) -> Position {
+        let FieldValues {
+            value: latitude,
+            rest,
+        } = parts;
+        let FieldValues {
+            value: longitude,
+            rest,
+        } = rest;
+        let FieldValues {
+            value: height,
+            rest: (),
+        } = rest;
+        Position {
+            latitude,
+            longitude,
+            height,
+        }
+    }
+}
+
 impl Deserialize for Position {
     ghost use Rattle.std.specs.Prelude.{codes};
     ghost use Rattle.serde_amqp.specs.Derive.{OnFields, ReadsRequired, ReadsOptional, NoMoreFields};
@@ -85,27 +107,11 @@ impl Deserialize for Position {
     ghost same = { λ x y. ⟦<ListSeed<PositionFields> as DeserializeSeed>⟧.same (⟦<Position as Record>⟧.parts x) (⟦<Position as Record>⟧.parts y) };
 
     fn deserialize<D: Deserializer>(alloc: Global, deserializer: D) -> Result<Position, D::Error> {
-        let FieldValues {
-            value: latitude,
-            rest,
-        } = read::<Position, D, _>(
+        build::<Position, D, _>(
             alloc,
             deserializer,
             ListSeed(named! { "latitude", "longitude", "height"? }),
-        )?;
-        let FieldValues {
-            value: longitude,
-            rest,
-        } = rest;
-        let FieldValues {
-            value: height,
-            rest: (),
-        } = rest;
-        Ok(Position {
-            latitude,
-            longitude,
-            height,
-        })
+        )
     }
 
     fn read_encoded(
@@ -114,24 +120,13 @@ impl Deserialize for Position {
         input: &mut &[u8],
         depth: u16,
     ) -> Result<Position, GaveUp> {
-        let seed = ListSeed(named! { "latitude", "longitude", "height"? });
-        let FieldValues {
-            value: latitude,
-            rest,
-        } = read_parts_encoded::<Position, _>(alloc, code, input, depth, seed)?;
-        let FieldValues {
-            value: longitude,
-            rest,
-        } = rest;
-        let FieldValues {
-            value: height,
-            rest: (),
-        } = rest;
-        Ok(Position {
-            latitude,
-            longitude,
-            height,
-        })
+        build_encoded::<Position, _>(
+            alloc,
+            code,
+            input,
+            depth,
+            ListSeed(named! { "latitude", "longitude", "height"? }),
+        )
     }
 }
 
@@ -201,6 +196,55 @@ impl Record for Report {
     ghost parts = { λ x. x.number ▸ x.remark ▸ x.station ▸ x.observers ▸ x.readings ▸ x.position ▸ x.time ▸ x.is_checked ▸ x.photograph ▸ tt };
 }
 
+impl FromParts for Report {
+    fn from_parts(parts: <ReportFields as FieldSeeds>::Values) -> Report {
+        let FieldValues {
+            value: number,
+            rest,
+        } = parts;
+        let FieldValues {
+            value: remark,
+            rest,
+        } = rest;
+        let FieldValues {
+            value: station,
+            rest,
+        } = rest;
+        let FieldValues {
+            value: observers,
+            rest,
+        } = rest;
+        let FieldValues {
+            value: readings,
+            rest,
+        } = rest;
+        let FieldValues {
+            value: position,
+            rest,
+        } = rest;
+        let FieldValues { value: time, rest } = rest;
+        let FieldValues {
+            value: is_checked,
+            rest,
+        } = rest;
+        let FieldValues {
+            value: photograph,
+            rest: (),
+        } = rest;
+        Report {
+            number,
+            remark,
+            station,
+            observers,
+            readings,
+            position,
+            time,
+            is_checked,
+            photograph,
+        }
+    }
+}
+
 impl Composite for Report {
     ghost use Rattle.std.specs.Prelude.{codes};
     ghost use Rattle.serde_amqp.specs.Derive.{OnFields, ReadsRequired, ReadsOptional, NoMoreFields};
@@ -236,56 +280,13 @@ impl Composite for Report {
     }
 
     fn read_body<D: Deserializer>(alloc: Global, deserializer: D) -> Result<Report, D::Error> {
-        let FieldValues {
-            value: number,
-            rest,
-        } = read::<Report, D, _>(
+        build::<Report, D, _>(
             alloc,
             deserializer,
             ListSeed(
                 named! { "number", "remark"?, "station", "observers", "readings", "position", "time", "is-checked"?, "photograph" },
             ),
-        )?;
-        let FieldValues {
-            value: remark,
-            rest,
-        } = rest;
-        let FieldValues {
-            value: station,
-            rest,
-        } = rest;
-        let FieldValues {
-            value: observers,
-            rest,
-        } = rest;
-        let FieldValues {
-            value: readings,
-            rest,
-        } = rest;
-        let FieldValues {
-            value: position,
-            rest,
-        } = rest;
-        let FieldValues { value: time, rest } = rest;
-        let FieldValues {
-            value: is_checked,
-            rest,
-        } = rest;
-        let FieldValues {
-            value: photograph,
-            rest: (),
-        } = rest;
-        Ok(Report {
-            number,
-            remark,
-            station,
-            observers,
-            readings,
-            position,
-            time,
-            is_checked,
-            photograph,
-        })
+        )
     }
 
     fn read_body_encoded(
@@ -294,53 +295,15 @@ impl Composite for Report {
         input: &mut &[u8],
         depth: u16,
     ) -> Result<Report, GaveUp> {
-        let seed = ListSeed(
-            named! { "number", "remark"?, "station", "observers", "readings", "position", "time", "is-checked"?, "photograph" },
-        );
-        let FieldValues {
-            value: number,
-            rest,
-        } = read_parts_encoded::<Report, _>(alloc, code, input, depth, seed)?;
-        let FieldValues {
-            value: remark,
-            rest,
-        } = rest;
-        let FieldValues {
-            value: station,
-            rest,
-        } = rest;
-        let FieldValues {
-            value: observers,
-            rest,
-        } = rest;
-        let FieldValues {
-            value: readings,
-            rest,
-        } = rest;
-        let FieldValues {
-            value: position,
-            rest,
-        } = rest;
-        let FieldValues { value: time, rest } = rest;
-        let FieldValues {
-            value: is_checked,
-            rest,
-        } = rest;
-        let FieldValues {
-            value: photograph,
-            rest: (),
-        } = rest;
-        Ok(Report {
-            number,
-            remark,
-            station,
-            observers,
-            readings,
-            position,
-            time,
-            is_checked,
-            photograph,
-        })
+        build_encoded::<Report, _>(
+            alloc,
+            code,
+            input,
+            depth,
+            ListSeed(
+                named! { "number", "remark"?, "station", "observers", "readings", "position", "time", "is-checked"?, "photograph" },
+            ),
+        )
     }
 }
 

@@ -30,9 +30,9 @@ pub struct Rain {
 
 // amqp: the impls below are written by tools/derive from the annotations above
 use serde_amqp::derive::{
-    Deserialize, DeserializeSeed, Deserializer, FieldSeeds, FieldValues, GaveUp, Global, ListOf,
-    ListSeed, Name, Record, Required, RoundTrip, Serialize, SerializeCompounds, Serializer, fields,
-    laws, named, read, read_named, read_named_encoded, read_parts_encoded,
+    Deserialize, DeserializeSeed, Deserializer, FieldSeeds, FieldValues, FromParts, GaveUp, Global,
+    ListOf, ListSeed, Name, Record, Required, RoundTrip, Serialize, SerializeCompounds, Serializer,
+    build, build_encoded, build_named, build_named_encoded, fields, laws, named,
 };
 
 impl Serialize for Day {
@@ -66,6 +66,25 @@ impl Record for Day {
     ghost parts = { λ x. x.light ▸ x.station ▸ x.hours ▸ tt };
 }
 
+impl FromParts for Day {
+    fn from_parts(parts: <DayFields as FieldSeeds>::Values) -> Day {
+        let FieldValues { value: light, rest } = parts;
+        let FieldValues {
+            value: station,
+            rest,
+        } = rest;
+        let FieldValues {
+            value: hours,
+            rest: (),
+        } = rest;
+        Day {
+            light,
+            station,
+            hours,
+        }
+    }
+}
+
 impl Deserialize for Day {
     ghost use Rattle.std.specs.Prelude.{codes};
     ghost use Rattle.serde_amqp.specs.Derive.{OnFields, ReadsRequired, NoMoreFields};
@@ -83,44 +102,21 @@ impl Deserialize for Day {
     ghost same = { λ x y. ⟦<ListSeed<DayFields> as DeserializeSeed>⟧.same (⟦<Day as Record>⟧.parts x) (⟦<Day as Record>⟧.parts y) };
 
     fn deserialize<D: Deserializer>(alloc: Global, deserializer: D) -> Result<Day, D::Error> {
-        let FieldValues { value: light, rest } = read::<Day, D, _>(
+        build::<Day, D, _>(
             alloc,
             deserializer,
             ListSeed(named! { "light", "station", "hours" }),
-        )?;
-        let FieldValues {
-            value: station,
-            rest,
-        } = rest;
-        let FieldValues {
-            value: hours,
-            rest: (),
-        } = rest;
-        Ok(Day {
-            light,
-            station,
-            hours,
-        })
+        )
     }
 
     fn read_encoded(alloc: Global, code: u8, input: &mut &[u8], depth: u16) -> Result<Day, GaveUp> {
-        let seed = ListSeed(named! { "light", "station", "hours" });
-        let FieldValues { value: light, rest } = read_parts_encoded::<Day, _>(
-            alloc, code, input, depth, seed,
-        )?;
-        let FieldValues {
-            value: station,
-            rest,
-        } = rest;
-        let FieldValues {
-            value: hours,
-            rest: (),
-        } = rest;
-        Ok(Day {
-            light,
-            station,
-            hours,
-        })
+        build_encoded::<Day, _>(
+            alloc,
+            code,
+            input,
+            depth,
+            ListSeed(named! { "light", "station", "hours" }),
+        )
     }
 }
 
@@ -161,6 +157,20 @@ impl Record for Rain {
     ghost parts = { λ x. x.amount ▸ x.time ▸ tt };
 }
 
+impl FromParts for Rain {
+    fn from_parts(parts: <RainFields as FieldSeeds>::Values) -> Rain {
+        let FieldValues {
+            value: amount,
+            rest,
+        } = parts;
+        let FieldValues {
+            value: time,
+            rest: (),
+        } = rest;
+        Rain { amount, time }
+    }
+}
+
 impl Deserialize for Rain {
     ghost use Rattle.std.specs.Prelude.{codes};
     ghost use Rattle.serde_amqp.specs.Derive.{name, described, OnDescribed, OnFields, ReadsRequired, NoMoreFields};
@@ -177,20 +187,12 @@ impl Deserialize for Rain {
     ghost same = { λ x y. ⟦<ListSeed<RainFields> as DeserializeSeed>⟧.same (⟦<Rain as Record>⟧.parts x) (⟦<Rain as Record>⟧.parts y) };
 
     fn deserialize<D: Deserializer>(alloc: Global, deserializer: D) -> Result<Rain, D::Error> {
-        let FieldValues {
-            value: amount,
-            rest,
-        } = read_named::<Rain, D, _>(
+        build_named::<Rain, D, _>(
             alloc,
             deserializer,
             "station:rain:list",
             ListSeed(named! { "amount", "time" }),
-        )?;
-        let FieldValues {
-            value: time,
-            rest: (),
-        } = rest;
-        Ok(Rain { amount, time })
+        )
     }
 
     fn read_encoded(
@@ -199,16 +201,14 @@ impl Deserialize for Rain {
         input: &mut &[u8],
         depth: u16,
     ) -> Result<Rain, GaveUp> {
-        let seed = ListSeed(named! { "amount", "time" });
-        let FieldValues {
-            value: amount,
-            rest,
-        } = read_named_encoded::<Rain, _>(alloc, code, input, depth, "station:rain:list", seed)?;
-        let FieldValues {
-            value: time,
-            rest: (),
-        } = rest;
-        Ok(Rain { amount, time })
+        build_named_encoded::<Rain, _>(
+            alloc,
+            code,
+            input,
+            depth,
+            "station:rain:list",
+            ListSeed(named! { "amount", "time" }),
+        )
     }
 }
 

@@ -17,9 +17,9 @@ pub struct Position {
 
 // amqp: the impls below are written by tools/derive from the annotations above
 use serde_amqp::derive::{
-    Deserialize, DeserializeSeed, Deserializer, FieldSeeds, FieldValues, GaveUp, Global, ListOf,
-    ListSeed, Optional, Record, Required, RoundTrip, Serialize, Serializer, fields, laws, named,
-    read, read_parts_encoded,
+    Deserialize, DeserializeSeed, Deserializer, FieldSeeds, FieldValues, FromParts, GaveUp, Global,
+    ListOf, ListSeed, Optional, Record, Required, RoundTrip, Serialize, Serializer, build,
+    build_encoded, fields, laws, named,
 };
 
 impl Serialize for Position {
@@ -53,6 +53,28 @@ impl Record for Position {
     ghost parts = { λ x. x.latitude ▸ x.longitude ▸ x.height ▸ tt };
 }
 
+impl FromParts for Position {
+    fn from_parts(parts: <PositionFields as FieldSeeds>::Values) -> Position {
+        let FieldValues {
+            value: latitude,
+            rest,
+        } = parts;
+        let FieldValues {
+            value: longitude,
+            rest,
+        } = rest;
+        let FieldValues {
+            value: height,
+            rest: (),
+        } = rest;
+        Position {
+            latitude,
+            longitude,
+            height,
+        }
+    }
+}
+
 impl Deserialize for Position {
     ghost use Rattle.std.specs.Prelude.{codes};
     ghost use Rattle.serde_amqp.specs.Derive.{OnFields, ReadsRequired, ReadsOptional, NoMoreFields};
@@ -70,27 +92,11 @@ impl Deserialize for Position {
     ghost same = { λ x y. ⟦<ListSeed<PositionFields> as DeserializeSeed>⟧.same (⟦<Position as Record>⟧.parts x) (⟦<Position as Record>⟧.parts y) };
 
     fn deserialize<D: Deserializer>(alloc: Global, deserializer: D) -> Result<Position, D::Error> {
-        let FieldValues {
-            value: latitude,
-            rest,
-        } = read::<Position, D, _>(
+        build::<Position, D, _>(
             alloc,
             deserializer,
             ListSeed(named! { "latitude", "longitude", "height"? }),
-        )?;
-        let FieldValues {
-            value: longitude,
-            rest,
-        } = rest;
-        let FieldValues {
-            value: height,
-            rest: (),
-        } = rest;
-        Ok(Position {
-            latitude,
-            longitude,
-            height,
-        })
+        )
     }
 
     fn read_encoded(
@@ -99,24 +105,13 @@ impl Deserialize for Position {
         input: &mut &[u8],
         depth: u16,
     ) -> Result<Position, GaveUp> {
-        let seed = ListSeed(named! { "latitude", "longitude", "height"? });
-        let FieldValues {
-            value: latitude,
-            rest,
-        } = read_parts_encoded::<Position, _>(alloc, code, input, depth, seed)?;
-        let FieldValues {
-            value: longitude,
-            rest,
-        } = rest;
-        let FieldValues {
-            value: height,
-            rest: (),
-        } = rest;
-        Ok(Position {
-            latitude,
-            longitude,
-            height,
-        })
+        build_encoded::<Position, _>(
+            alloc,
+            code,
+            input,
+            depth,
+            ListSeed(named! { "latitude", "longitude", "height"? }),
+        )
     }
 }
 

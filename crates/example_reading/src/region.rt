@@ -46,9 +46,9 @@ impl Region {
 
 // amqp: the impls below are written by tools/derive from the annotations above
 use serde_amqp::derive::{
-    Deserialize, DeserializeSeed, Deserializer, FieldSeeds, FieldValues, GaveUp, Global, ListOf,
-    ListSeed, Record, Required, RoundTrip, Serialize, Serializer, fields, laws, named, read,
-    read_parts_encoded,
+    Deserialize, DeserializeSeed, Deserializer, FieldSeeds, FieldValues, FromParts, GaveUp, Global,
+    ListOf, ListSeed, Record, Required, RoundTrip, Serialize, Serializer, build, build_encoded,
+    fields, laws, named,
 };
 
 impl Serialize for Region {
@@ -80,6 +80,20 @@ impl Record for Region {
     ghost parts = { λ x. x.number ▸ x.inner ▸ tt };
 }
 
+impl FromParts for Region {
+    fn from_parts(parts: <RegionFields as FieldSeeds>::Values) -> Region {
+        let FieldValues {
+            value: number,
+            rest,
+        } = parts;
+        let FieldValues {
+            value: inner,
+            rest: (),
+        } = rest;
+        Region { number, inner }
+    }
+}
+
 impl Deserialize for Region {
     ghost use Rattle.std.specs.Prelude.{codes};
     ghost use Rattle.serde_amqp.specs.Derive.{OnFields, ReadsRequired, NoMoreFields};
@@ -96,15 +110,7 @@ impl Deserialize for Region {
     ghost same = { λ x y. ⟦<ListSeed<RegionFields> as DeserializeSeed>⟧.same (⟦<Region as Record>⟧.parts x) (⟦<Region as Record>⟧.parts y) };
 
     fn deserialize<D: Deserializer>(alloc: Global, deserializer: D) -> Result<Region, D::Error> {
-        let FieldValues {
-            value: number,
-            rest,
-        } = read::<Region, D, _>(alloc, deserializer, ListSeed(named! { "number", "inner" }))?;
-        let FieldValues {
-            value: inner,
-            rest: (),
-        } = rest;
-        Ok(Region { number, inner })
+        build::<Region, D, _>(alloc, deserializer, ListSeed(named! { "number", "inner" }))
     }
 
     fn read_encoded(
@@ -113,16 +119,13 @@ impl Deserialize for Region {
         input: &mut &[u8],
         depth: u16,
     ) -> Result<Region, GaveUp> {
-        let seed = ListSeed(named! { "number", "inner" });
-        let FieldValues {
-            value: number,
-            rest,
-        } = read_parts_encoded::<Region, _>(alloc, code, input, depth, seed)?;
-        let FieldValues {
-            value: inner,
-            rest: (),
-        } = rest;
-        Ok(Region { number, inner })
+        build_encoded::<Region, _>(
+            alloc,
+            code,
+            input,
+            depth,
+            ListSeed(named! { "number", "inner" }),
+        )
     }
 }
 

@@ -32,9 +32,9 @@ pub struct Report {
 
 // amqp: the impls below are written by tools/derive from the annotations above
 use serde_amqp::derive::{
-    Deserialize, DeserializeSeed, Deserializer, FieldSeeds, FieldValues, GaveUp, Global, ListOf,
-    ListSeed, Optional, Record, Required, RoundTrip, Serialize, SerializeCompounds, Serializer,
-    fields, laws, named, read_composite, read_composite_encoded,
+    Deserialize, DeserializeSeed, Deserializer, FieldSeeds, FieldValues, FromParts, GaveUp, Global,
+    ListOf, ListSeed, Optional, Record, Required, RoundTrip, Serialize, SerializeCompounds,
+    Serializer, build_composite, build_composite_encoded, fields, laws, named,
 };
 
 impl Serialize for Report {
@@ -97,6 +97,55 @@ impl Record for Report {
     ghost parts = { λ x. x.number ▸ x.remark ▸ x.station ▸ x.observers ▸ x.readings ▸ x.position ▸ x.time ▸ x.is_checked ▸ x.photograph ▸ tt };
 }
 
+impl FromParts for Report {
+    fn from_parts(parts: <ReportFields as FieldSeeds>::Values) -> Report {
+        let FieldValues {
+            value: number,
+            rest,
+        } = parts;
+        let FieldValues {
+            value: remark,
+            rest,
+        } = rest;
+        let FieldValues {
+            value: station,
+            rest,
+        } = rest;
+        let FieldValues {
+            value: observers,
+            rest,
+        } = rest;
+        let FieldValues {
+            value: readings,
+            rest,
+        } = rest;
+        let FieldValues {
+            value: position,
+            rest,
+        } = rest;
+        let FieldValues { value: time, rest } = rest;
+        let FieldValues {
+            value: is_checked,
+            rest,
+        } = rest;
+        let FieldValues {
+            value: photograph,
+            rest: (),
+        } = rest;
+        Report {
+            number,
+            remark,
+            station,
+            observers,
+            readings,
+            position,
+            time,
+            is_checked,
+            photograph,
+        }
+    }
+}
+
 impl Deserialize for Report {
     ghost use Rattle.std.specs.Prelude.{codes};
     ghost use Rattle.serde_amqp.specs.Derive.{code, described, OnDescribed, OnFields, ReadsRequired, ReadsOptional, NoMoreFields};
@@ -120,57 +169,14 @@ impl Deserialize for Report {
     ghost same = { λ x y. ⟦<ListSeed<ReportFields> as DeserializeSeed>⟧.same (⟦<Report as Record>⟧.parts x) (⟦<Report as Record>⟧.parts y) };
 
     fn deserialize<D: Deserializer>(alloc: Global, deserializer: D) -> Result<Report, D::Error> {
-        let FieldValues {
-            value: number,
-            rest,
-        } = read_composite::<Report, D, _>(
+        build_composite::<Report, D, _>(
             alloc,
             deserializer,
             0x18u64,
             ListSeed(
                 named! { "number", "remark"?, "station", "observers", "readings", "position", "time", "is-checked", "photograph" },
             ),
-        )?;
-        let FieldValues {
-            value: remark,
-            rest,
-        } = rest;
-        let FieldValues {
-            value: station,
-            rest,
-        } = rest;
-        let FieldValues {
-            value: observers,
-            rest,
-        } = rest;
-        let FieldValues {
-            value: readings,
-            rest,
-        } = rest;
-        let FieldValues {
-            value: position,
-            rest,
-        } = rest;
-        let FieldValues { value: time, rest } = rest;
-        let FieldValues {
-            value: is_checked,
-            rest,
-        } = rest;
-        let FieldValues {
-            value: photograph,
-            rest: (),
-        } = rest;
-        Ok(Report {
-            number,
-            remark,
-            station,
-            observers,
-            readings,
-            position,
-            time,
-            is_checked,
-            photograph,
-        })
+        )
     }
 
     fn read_encoded(
@@ -179,53 +185,16 @@ impl Deserialize for Report {
         input: &mut &[u8],
         depth: u16,
     ) -> Result<Report, GaveUp> {
-        let seed = ListSeed(
-            named! { "number", "remark"?, "station", "observers", "readings", "position", "time", "is-checked", "photograph" },
-        );
-        let FieldValues {
-            value: number,
-            rest,
-        } = read_composite_encoded::<Report, _>(alloc, code, input, depth, 0x18, seed)?;
-        let FieldValues {
-            value: remark,
-            rest,
-        } = rest;
-        let FieldValues {
-            value: station,
-            rest,
-        } = rest;
-        let FieldValues {
-            value: observers,
-            rest,
-        } = rest;
-        let FieldValues {
-            value: readings,
-            rest,
-        } = rest;
-        let FieldValues {
-            value: position,
-            rest,
-        } = rest;
-        let FieldValues { value: time, rest } = rest;
-        let FieldValues {
-            value: is_checked,
-            rest,
-        } = rest;
-        let FieldValues {
-            value: photograph,
-            rest: (),
-        } = rest;
-        Ok(Report {
-            number,
-            remark,
-            station,
-            observers,
-            readings,
-            position,
-            time,
-            is_checked,
-            photograph,
-        })
+        build_composite_encoded::<Report, _>(
+            alloc,
+            code,
+            input,
+            depth,
+            0x18,
+            ListSeed(
+                named! { "number", "remark"?, "station", "observers", "readings", "position", "time", "is-checked", "photograph" },
+            ),
+        )
     }
 }
 

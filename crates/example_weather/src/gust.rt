@@ -17,9 +17,9 @@ pub struct Gust {
 
 // amqp: the impls below are written by tools/derive from the annotations above
 use serde_amqp::derive::{
-    Deserialize, DeserializeSeed, Deserializer, FieldSeeds, FieldValues, GaveUp, Global, ListOf,
-    ListSeed, Optional, Record, Required, RoundTrip, Serialize, SerializeCompounds, Serializer,
-    fields, laws, named, read_composite, read_composite_encoded,
+    Deserialize, DeserializeSeed, Deserializer, FieldSeeds, FieldValues, FromParts, GaveUp, Global,
+    ListOf, ListSeed, Optional, Record, Required, RoundTrip, Serialize, SerializeCompounds,
+    Serializer, build_composite, build_composite_encoded, fields, laws, named,
 };
 
 impl Serialize for Gust {
@@ -55,6 +55,18 @@ impl Record for Gust {
     ghost parts = { λ x. x.speed ▸ x.from ▸ x.at ▸ tt };
 }
 
+impl FromParts for Gust {
+    fn from_parts(parts: <GustFields as FieldSeeds>::Values) -> Gust {
+        let FieldValues { value: speed, rest } = parts;
+        let FieldValues { value: from, rest } = rest;
+        let FieldValues {
+            value: at,
+            rest: (),
+        } = rest;
+        Gust { speed, from, at }
+    }
+}
+
 impl Deserialize for Gust {
     ghost use Rattle.std.specs.Prelude.{codes};
     ghost use Rattle.serde_amqp.specs.Derive.{code, described, OnDescribed, OnFields, ReadsRequired, ReadsOptional, NoMoreFields};
@@ -72,18 +84,12 @@ impl Deserialize for Gust {
     ghost same = { λ x y. ⟦<ListSeed<GustFields> as DeserializeSeed>⟧.same (⟦<Gust as Record>⟧.parts x) (⟦<Gust as Record>⟧.parts y) };
 
     fn deserialize<D: Deserializer>(alloc: Global, deserializer: D) -> Result<Gust, D::Error> {
-        let FieldValues { value: speed, rest } = read_composite::<Gust, D, _>(
+        build_composite::<Gust, D, _>(
             alloc,
             deserializer,
             0x17u64,
             ListSeed(named! { "speed", "from"?, "at"? }),
-        )?;
-        let FieldValues { value: from, rest } = rest;
-        let FieldValues {
-            value: at,
-            rest: (),
-        } = rest;
-        Ok(Gust { speed, from, at })
+        )
     }
 
     fn read_encoded(
@@ -92,16 +98,14 @@ impl Deserialize for Gust {
         input: &mut &[u8],
         depth: u16,
     ) -> Result<Gust, GaveUp> {
-        let seed = ListSeed(named! { "speed", "from"?, "at"? });
-        let FieldValues { value: speed, rest } = read_composite_encoded::<Gust, _>(
-            alloc, code, input, depth, 0x17, seed,
-        )?;
-        let FieldValues { value: from, rest } = rest;
-        let FieldValues {
-            value: at,
-            rest: (),
-        } = rest;
-        Ok(Gust { speed, from, at })
+        build_composite_encoded::<Gust, _>(
+            alloc,
+            code,
+            input,
+            depth,
+            0x17,
+            ListSeed(named! { "speed", "from"?, "at"? }),
+        )
     }
 }
 

@@ -7,8 +7,10 @@ pub use amqp_de::de::{
 };
 pub use amqp_de::{
     Alternatives, Composite, ContentOf, DataVariant, Defaulted, Describes, DeserializeSeed, Either,
-    ElementsOf, EntriesOf, EnumAccessOf, EnumSeed, FieldSeeds, FieldValues, ListSeed, NamedRecord,
-    NamedSeed, Never, Optional, Record, Required, TypeSeed, UnitVariant, Variants, laws, read,
+    ElementsOf, EntriesOf, EnumAccessOf, EnumSeed, FieldSeeds, FieldValues, FromParts, ListSeed,
+    NamedRecord, NamedSeed, Never, Optional, Record, Required, TypeSeed, UnitVariant, Variants,
+    build, build_composite, build_composite_encoded, build_composite_map, build_encoded,
+    build_fields_map, build_named, build_named_encoded, build_named_map, laws, read,
     read_alternatives, read_alternatives_encoded, read_composite, read_composite_encoded,
     read_composite_map, read_composite_type, read_composite_type_encoded, read_described,
     read_described_encoded, read_described_map, read_fields_map, read_map, read_named,
