@@ -1,5 +1,6 @@
 -- Definitions in the contracts of public items, except `texts` of Lines.
 pub mod Writer
+pub mod Encoded
 pub mod CutLines
 pub mod CutRun
 pub mod Lines
@@ -34,6 +35,9 @@ pub use Rattle.amqp_ser.specs.Writable
 pub use Rattle.amqp_ser.specs.declared.kind.CompoundKind
 pub use Rattle.amqp_ser.specs.declared.marker.Marker
 pub use Rattle.amqp_pass.specs.Width
+pub use Rattle.amqp_wire.specs.Appended
+pub use Rattle.amqp_strict.specs.EmptyArrays
+pub use Rattle.amqp_strict.specs.Strict
 pub use Rattle.amqp_value.specs.Image
 pub use Rattle.amqp_value.specs.Plain
 pub use Rattle.amqp_value.specs.Sound

@@ -19,6 +19,7 @@ pub mod decode;
 pub mod derive;
 pub mod described;
 pub mod descriptor;
+mod encoded;
 pub mod extensions;
 pub mod format_code;
 mod hexadecimal;
@@ -37,15 +38,18 @@ mod write;
 mod writers;
 
 pub use amqp_data::Error;
+pub use amqp_encode::{Encoder, append_to};
 pub use amqp_from_slice::{
     Limits, from_reader, from_reader_limited, from_slice, from_slice_limited, round_trip_bytes,
 };
 pub use amqp_from_value::from_value;
 pub use amqp_size::serialized_size;
+pub use amqp_strict::{has_empty_array, to_vec_strict};
 pub use amqp_to_value::to_value;
 pub use amqp_value::Value;
 pub use amqp_wire::to_vec;
 pub use cut::run_cut;
+pub use encoded::write_to;
 pub use lines::run_lines;
 pub use write::Write;
 pub use writers::{IoWriter, VecWriter};
