@@ -20,10 +20,10 @@ pub struct AmqpError {
 
 // amqp: the impls below are written by tools/derive from the annotations above
 use serde_amqp::derive::{
-    Composite, Deserialize, DeserializeSeed, Deserializer, FieldSeeds, FieldValues, GaveUp, Global,
-    ListOf, ListSeed, Optional, Record, Required, RoundTrip, RoundTripComposite, Serialize,
-    SerializeCompounds, Serializer, fields, laws, named, read, read_composite_type,
-    read_composite_type_encoded, read_parts_encoded,
+    Composite, Deserialize, DeserializeSeed, Deserializer, FieldSeeds, FieldValues, FromParts,
+    GaveUp, Global, ListOf, ListSeed, Optional, Record, Required, RoundTrip, RoundTripComposite,
+    Serialize, SerializeCompounds, Serializer, build, build_encoded, fields, laws, named,
+    read_composite_type, read_composite_type_encoded,
 };
 
 impl Serialize for AmqpError {
@@ -59,6 +59,28 @@ impl Record for AmqpError {
     ghost parts = { λ x. x.condition ▸ x.description ▸ x.info ▸ tt };
 }
 
+impl FromParts for AmqpError {
+    fn from_parts(parts: <AmqpErrorFields as FieldSeeds>::Values) -> AmqpError {
+        let FieldValues {
+            value: condition,
+            rest,
+        } = parts;
+        let FieldValues {
+            value: description,
+            rest,
+        } = rest;
+        let FieldValues {
+            value: info,
+            rest: (),
+        } = rest;
+        AmqpError {
+            condition,
+            description,
+            info,
+        }
+    }
+}
+
 impl Composite for AmqpError {
     ghost use Rattle.std.specs.Prelude.{codes};
     ghost use Rattle.serde_amqp.specs.Derive.{OnFields, ReadsRequired, ReadsOptional, NoMoreFields};
@@ -88,27 +110,11 @@ impl Composite for AmqpError {
     }
 
     fn read_body<D: Deserializer>(alloc: Global, deserializer: D) -> Result<AmqpError, D::Error> {
-        let FieldValues {
-            value: condition,
-            rest,
-        } = read::<AmqpError, D, _>(
+        build::<AmqpError, D, _>(
             alloc,
             deserializer,
             ListSeed(named! { "condition", "description"?, "info"? }),
-        )?;
-        let FieldValues {
-            value: description,
-            rest,
-        } = rest;
-        let FieldValues {
-            value: info,
-            rest: (),
-        } = rest;
-        Ok(AmqpError {
-            condition,
-            description,
-            info,
-        })
+        )
     }
 
     fn read_body_encoded(
@@ -117,24 +123,13 @@ impl Composite for AmqpError {
         input: &mut &[u8],
         depth: u16,
     ) -> Result<AmqpError, GaveUp> {
-        let seed = ListSeed(named! { "condition", "description"?, "info"? });
-        let FieldValues {
-            value: condition,
-            rest,
-        } = read_parts_encoded::<AmqpError, _>(alloc, code, input, depth, seed)?;
-        let FieldValues {
-            value: description,
-            rest,
-        } = rest;
-        let FieldValues {
-            value: info,
-            rest: (),
-        } = rest;
-        Ok(AmqpError {
-            condition,
-            description,
-            info,
-        })
+        build_encoded::<AmqpError, _>(
+            alloc,
+            code,
+            input,
+            depth,
+            ListSeed(named! { "condition", "description"?, "info"? }),
+        )
     }
 }
 

@@ -61,9 +61,9 @@ pub struct Modified {
 
 // amqp: the impls below are written by tools/derive from the annotations above
 use serde_amqp::derive::{
-    Composite, Deserialize, DeserializeSeed, Deserializer, FieldSeeds, FieldValues, GaveUp, Global,
-    ListOf, ListSeed, Optional, Record, Required, RoundTrip, RoundTripComposite, Serialize,
-    SerializeCompounds, Serializer, fields, laws, named, read, read_composite_type,
+    Composite, Deserialize, DeserializeSeed, Deserializer, FieldSeeds, FieldValues, FromParts,
+    GaveUp, Global, ListOf, ListSeed, Optional, Record, Required, RoundTrip, RoundTripComposite,
+    Serialize, SerializeCompounds, Serializer, build, fields, laws, named, read_composite_type,
     read_composite_type_encoded, read_no_fields, read_parts_encoded,
 };
 
@@ -98,6 +98,23 @@ impl Record for Received {
     ghost parts = { λ x. x.section_number ▸ x.section_offset ▸ tt };
 }
 
+impl FromParts for Received {
+    fn from_parts(parts: <ReceivedFields as FieldSeeds>::Values) -> Received {
+        let FieldValues {
+            value: section_number,
+            rest,
+        } = parts;
+        let FieldValues {
+            value: section_offset,
+            rest: (),
+        } = rest;
+        Received {
+            section_number,
+            section_offset,
+        }
+    }
+}
+
 impl Composite for Received {
     ghost use Rattle.std.specs.Prelude.{codes};
     ghost use Rattle.serde_amqp.specs.Derive.{OnFields, ReadsRequired, NoMoreFields};
@@ -126,22 +143,11 @@ impl Composite for Received {
     }
 
     fn read_body<D: Deserializer>(alloc: Global, deserializer: D) -> Result<Received, D::Error> {
-        let FieldValues {
-            value: section_number,
-            rest,
-        } = read::<Received, D, _>(
+        build::<Received, D, _>(
             alloc,
             deserializer,
             ListSeed(named! { "section-number", "section-offset" }),
-        )?;
-        let FieldValues {
-            value: section_offset,
-            rest: (),
-        } = rest;
-        Ok(Received {
-            section_number,
-            section_offset,
-        })
+        )
     }
 }
 
@@ -230,8 +236,7 @@ impl Composite for Accepted {
         input: &mut &[u8],
         depth: u16,
     ) -> Result<Accepted, GaveUp> {
-        let seed = ListSeed(());
-        let () = read_parts_encoded::<Accepted, _>(alloc, code, input, depth, seed)?;
+        let () = read_parts_encoded::<Accepted, _>(alloc, code, input, depth, ListSeed(()))?;
         Ok(Accepted)
     }
 }
@@ -304,6 +309,16 @@ impl Record for Rejected {
     ghost parts = { λ x. x.error ▸ tt };
 }
 
+impl FromParts for Rejected {
+    fn from_parts(parts: <RejectedFields as FieldSeeds>::Values) -> Rejected {
+        let FieldValues {
+            value: error,
+            rest: (),
+        } = parts;
+        Rejected { error }
+    }
+}
+
 impl Composite for Rejected {
     ghost use Rattle.std.specs.Prelude.{codes};
     ghost use Rattle.serde_amqp.specs.Derive.{OnFields, ReadsOptional, NoMoreFields};
@@ -331,11 +346,7 @@ impl Composite for Rejected {
     }
 
     fn read_body<D: Deserializer>(alloc: Global, deserializer: D) -> Result<Rejected, D::Error> {
-        let FieldValues {
-            value: error,
-            rest: (),
-        } = read::<Rejected, D, _>(alloc, deserializer, ListSeed(named! { "error"? }))?;
-        Ok(Rejected { error })
+        build::<Rejected, D, _>(alloc, deserializer, ListSeed(named! { "error"? }))
     }
 }
 
@@ -482,6 +493,28 @@ impl Record for Modified {
     ghost parts = { λ x. x.delivery_failed ▸ x.undeliverable_here ▸ x.message_annotations ▸ tt };
 }
 
+impl FromParts for Modified {
+    fn from_parts(parts: <ModifiedFields as FieldSeeds>::Values) -> Modified {
+        let FieldValues {
+            value: delivery_failed,
+            rest,
+        } = parts;
+        let FieldValues {
+            value: undeliverable_here,
+            rest,
+        } = rest;
+        let FieldValues {
+            value: message_annotations,
+            rest: (),
+        } = rest;
+        Modified {
+            delivery_failed,
+            undeliverable_here,
+            message_annotations,
+        }
+    }
+}
+
 impl Composite for Modified {
     ghost use Rattle.std.specs.Prelude.{codes};
     ghost use Rattle.serde_amqp.specs.Derive.{OnFields, ReadsOptional, NoMoreFields};
@@ -511,27 +544,11 @@ impl Composite for Modified {
     }
 
     fn read_body<D: Deserializer>(alloc: Global, deserializer: D) -> Result<Modified, D::Error> {
-        let FieldValues {
-            value: delivery_failed,
-            rest,
-        } = read::<Modified, D, _>(
+        build::<Modified, D, _>(
             alloc,
             deserializer,
             ListSeed(named! { "delivery-failed"?, "undeliverable-here"?, "message-annotations"? }),
-        )?;
-        let FieldValues {
-            value: undeliverable_here,
-            rest,
-        } = rest;
-        let FieldValues {
-            value: message_annotations,
-            rest: (),
-        } = rest;
-        Ok(Modified {
-            delivery_failed,
-            undeliverable_here,
-            message_annotations,
-        })
+        )
     }
 }
 

@@ -54,9 +54,9 @@ pub struct TransactionalState {
 
 // amqp: the impls below are written by tools/derive from the annotations above
 use serde_amqp::derive::{
-    Composite, Deserialize, DeserializeSeed, Deserializer, FieldSeeds, FieldValues, Global, ListOf,
-    ListSeed, Optional, Record, Required, RoundTrip, RoundTripComposite, Serialize,
-    SerializeCompounds, Serializer, fields, laws, named, read, read_composite_type,
+    Composite, Deserialize, DeserializeSeed, Deserializer, FieldSeeds, FieldValues, FromParts,
+    Global, ListOf, ListSeed, Optional, Record, Required, RoundTrip, RoundTripComposite, Serialize,
+    SerializeCompounds, Serializer, build, fields, laws, named, read_composite_type,
 };
 
 impl Serialize for Declare {
@@ -88,6 +88,16 @@ impl Record for Declare {
     ghost parts = { λ x. x.global_id ▸ tt };
 }
 
+impl FromParts for Declare {
+    fn from_parts(parts: <DeclareFields as FieldSeeds>::Values) -> Declare {
+        let FieldValues {
+            value: global_id,
+            rest: (),
+        } = parts;
+        Declare { global_id }
+    }
+}
+
 impl Composite for Declare {
     ghost use Rattle.std.specs.Prelude.{codes};
     ghost use Rattle.serde_amqp.specs.Derive.{OnFields, ReadsOptional, NoMoreFields};
@@ -115,11 +125,7 @@ impl Composite for Declare {
     }
 
     fn read_body<D: Deserializer>(alloc: Global, deserializer: D) -> Result<Declare, D::Error> {
-        let FieldValues {
-            value: global_id,
-            rest: (),
-        } = read::<Declare, D, _>(alloc, deserializer, ListSeed(named! { "global-id"? }))?;
-        Ok(Declare { global_id })
+        build::<Declare, D, _>(alloc, deserializer, ListSeed(named! { "global-id"? }))
     }
 }
 
@@ -184,6 +190,20 @@ impl Record for Discharge {
     ghost parts = { λ x. x.txn_id ▸ x.fail ▸ tt };
 }
 
+impl FromParts for Discharge {
+    fn from_parts(parts: <DischargeFields as FieldSeeds>::Values) -> Discharge {
+        let FieldValues {
+            value: txn_id,
+            rest,
+        } = parts;
+        let FieldValues {
+            value: fail,
+            rest: (),
+        } = rest;
+        Discharge { txn_id, fail }
+    }
+}
+
 impl Composite for Discharge {
     ghost use Rattle.std.specs.Prelude.{codes};
     ghost use Rattle.serde_amqp.specs.Derive.{OnFields, ReadsRequired, ReadsOptional, NoMoreFields};
@@ -212,15 +232,7 @@ impl Composite for Discharge {
     }
 
     fn read_body<D: Deserializer>(alloc: Global, deserializer: D) -> Result<Discharge, D::Error> {
-        let FieldValues {
-            value: txn_id,
-            rest,
-        } = read::<Discharge, D, _>(alloc, deserializer, ListSeed(named! { "txn-id", "fail"? }))?;
-        let FieldValues {
-            value: fail,
-            rest: (),
-        } = rest;
-        Ok(Discharge { txn_id, fail })
+        build::<Discharge, D, _>(alloc, deserializer, ListSeed(named! { "txn-id", "fail"? }))
     }
 }
 
@@ -283,6 +295,16 @@ impl Record for Declared {
     ghost parts = { λ x. x.txn_id ▸ tt };
 }
 
+impl FromParts for Declared {
+    fn from_parts(parts: <DeclaredFields as FieldSeeds>::Values) -> Declared {
+        let FieldValues {
+            value: txn_id,
+            rest: (),
+        } = parts;
+        Declared { txn_id }
+    }
+}
+
 impl Composite for Declared {
     ghost use Rattle.std.specs.Prelude.{codes};
     ghost use Rattle.serde_amqp.specs.Derive.{OnFields, ReadsRequired, NoMoreFields};
@@ -310,11 +332,7 @@ impl Composite for Declared {
     }
 
     fn read_body<D: Deserializer>(alloc: Global, deserializer: D) -> Result<Declared, D::Error> {
-        let FieldValues {
-            value: txn_id,
-            rest: (),
-        } = read::<Declared, D, _>(alloc, deserializer, ListSeed(named! { "txn-id" }))?;
-        Ok(Declared { txn_id })
+        build::<Declared, D, _>(alloc, deserializer, ListSeed(named! { "txn-id" }))
     }
 }
 
@@ -379,6 +397,20 @@ impl Record for TransactionalState {
     ghost parts = { λ x. x.txn_id ▸ x.outcome ▸ tt };
 }
 
+impl FromParts for TransactionalState {
+    fn from_parts(parts: <TransactionalStateFields as FieldSeeds>::Values) -> TransactionalState {
+        let FieldValues {
+            value: txn_id,
+            rest,
+        } = parts;
+        let FieldValues {
+            value: outcome,
+            rest: (),
+        } = rest;
+        TransactionalState { txn_id, outcome }
+    }
+}
+
 impl Composite for TransactionalState {
     ghost use Rattle.std.specs.Prelude.{codes};
     ghost use Rattle.serde_amqp.specs.Derive.{OnFields, ReadsRequired, ReadsOptional, NoMoreFields};
@@ -410,19 +442,11 @@ impl Composite for TransactionalState {
         alloc: Global,
         deserializer: D,
     ) -> Result<TransactionalState, D::Error> {
-        let FieldValues {
-            value: txn_id,
-            rest,
-        } = read::<TransactionalState, D, _>(
+        build::<TransactionalState, D, _>(
             alloc,
             deserializer,
             ListSeed(named! { "txn-id", "outcome"? }),
-        )?;
-        let FieldValues {
-            value: outcome,
-            rest: (),
-        } = rest;
-        Ok(TransactionalState { txn_id, outcome })
+        )
     }
 }
 

@@ -84,8 +84,13 @@ impl Composite for Data {
         input: &mut &[u8],
         depth: u16,
     ) -> Result<Data, GaveUp> {
-        let seed = TypeSeed(PhantomData::<ByteBuf>);
-        let part0 = read_parts_encoded::<Data, _>(alloc, code, input, depth, seed)?;
+        let part0 = read_parts_encoded::<Data, _>(
+            alloc,
+            code,
+            input,
+            depth,
+            TypeSeed(PhantomData::<ByteBuf>),
+        )?;
         Ok(Data(part0))
     }
 }
@@ -186,8 +191,13 @@ impl Composite for AmqpSequence {
         input: &mut &[u8],
         depth: u16,
     ) -> Result<AmqpSequence, GaveUp> {
-        let seed = TypeSeed(PhantomData::<Vec<Value>>);
-        let part0 = read_parts_encoded::<AmqpSequence, _>(alloc, code, input, depth, seed)?;
+        let part0 = read_parts_encoded::<AmqpSequence, _>(
+            alloc,
+            code,
+            input,
+            depth,
+            TypeSeed(PhantomData::<Vec<Value>>),
+        )?;
         Ok(AmqpSequence(part0))
     }
 }
@@ -284,8 +294,13 @@ impl Composite for AmqpValue {
         input: &mut &[u8],
         depth: u16,
     ) -> Result<AmqpValue, GaveUp> {
-        let seed = TypeSeed(PhantomData::<Value>);
-        let part0 = read_parts_encoded::<AmqpValue, _>(alloc, code, input, depth, seed)?;
+        let part0 = read_parts_encoded::<AmqpValue, _>(
+            alloc,
+            code,
+            input,
+            depth,
+            TypeSeed(PhantomData::<Value>),
+        )?;
         Ok(AmqpValue(part0))
     }
 }

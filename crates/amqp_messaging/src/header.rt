@@ -25,10 +25,10 @@ pub struct Header {
 
 // amqp: the impls below are written by tools/derive from the annotations above
 use serde_amqp::derive::{
-    Composite, Deserialize, DeserializeSeed, Deserializer, FieldSeeds, FieldValues, GaveUp, Global,
-    ListOf, ListSeed, Optional, Record, RoundTrip, RoundTripComposite, Serialize,
-    SerializeCompounds, Serializer, fields, laws, named, read, read_composite_type,
-    read_composite_type_encoded, read_parts_encoded,
+    Composite, Deserialize, DeserializeSeed, Deserializer, FieldSeeds, FieldValues, FromParts,
+    GaveUp, Global, ListOf, ListSeed, Optional, Record, RoundTrip, RoundTripComposite, Serialize,
+    SerializeCompounds, Serializer, build, build_encoded, fields, laws, named, read_composite_type,
+    read_composite_type_encoded,
 };
 
 impl Serialize for Header {
@@ -68,6 +68,35 @@ impl Record for Header {
     ghost parts = { λ x. x.durable ▸ x.priority ▸ x.ttl ▸ x.first_acquirer ▸ x.delivery_count ▸ tt };
 }
 
+impl FromParts for Header {
+    fn from_parts(parts: <HeaderFields as FieldSeeds>::Values) -> Header {
+        let FieldValues {
+            value: durable,
+            rest,
+        } = parts;
+        let FieldValues {
+            value: priority,
+            rest,
+        } = rest;
+        let FieldValues { value: ttl, rest } = rest;
+        let FieldValues {
+            value: first_acquirer,
+            rest,
+        } = rest;
+        let FieldValues {
+            value: delivery_count,
+            rest: (),
+        } = rest;
+        Header {
+            durable,
+            priority,
+            ttl,
+            first_acquirer,
+            delivery_count,
+        }
+    }
+}
+
 impl Composite for Header {
     ghost use Rattle.std.specs.Prelude.{codes};
     ghost use Rattle.serde_amqp.specs.Derive.{OnFields, ReadsOptional, NoMoreFields};
@@ -99,36 +128,13 @@ impl Composite for Header {
     }
 
     fn read_body<D: Deserializer>(alloc: Global, deserializer: D) -> Result<Header, D::Error> {
-        let FieldValues {
-            value: durable,
-            rest,
-        } = read::<Header, D, _>(
+        build::<Header, D, _>(
             alloc,
             deserializer,
             ListSeed(
                 named! { "durable"?, "priority"?, "ttl"?, "first-acquirer"?, "delivery-count"? },
             ),
-        )?;
-        let FieldValues {
-            value: priority,
-            rest,
-        } = rest;
-        let FieldValues { value: ttl, rest } = rest;
-        let FieldValues {
-            value: first_acquirer,
-            rest,
-        } = rest;
-        let FieldValues {
-            value: delivery_count,
-            rest: (),
-        } = rest;
-        Ok(Header {
-            durable,
-            priority,
-            ttl,
-            first_acquirer,
-            delivery_count,
-        })
+        )
     }
 
     fn read_body_encoded(
@@ -137,33 +143,15 @@ impl Composite for Header {
         input: &mut &[u8],
         depth: u16,
     ) -> Result<Header, GaveUp> {
-        let seed = ListSeed(
-            named! { "durable"?, "priority"?, "ttl"?, "first-acquirer"?, "delivery-count"? },
-        );
-        let FieldValues {
-            value: durable,
-            rest,
-        } = read_parts_encoded::<Header, _>(alloc, code, input, depth, seed)?;
-        let FieldValues {
-            value: priority,
-            rest,
-        } = rest;
-        let FieldValues { value: ttl, rest } = rest;
-        let FieldValues {
-            value: first_acquirer,
-            rest,
-        } = rest;
-        let FieldValues {
-            value: delivery_count,
-            rest: (),
-        } = rest;
-        Ok(Header {
-            durable,
-            priority,
-            ttl,
-            first_acquirer,
-            delivery_count,
-        })
+        build_encoded::<Header, _>(
+            alloc,
+            code,
+            input,
+            depth,
+            ListSeed(
+                named! { "durable"?, "priority"?, "ttl"?, "first-acquirer"?, "delivery-count"? },
+            ),
+        )
     }
 }
 

@@ -40,10 +40,10 @@ pub struct Properties {
 
 // amqp: the impls below are written by tools/derive from the annotations above
 use serde_amqp::derive::{
-    Composite, Deserialize, DeserializeSeed, Deserializer, FieldSeeds, FieldValues, GaveUp, Global,
-    ListOf, ListSeed, Optional, Record, RoundTrip, RoundTripComposite, Serialize,
-    SerializeCompounds, Serializer, fields, laws, named, read, read_composite_type,
-    read_composite_type_encoded, read_parts_encoded,
+    Composite, Deserialize, DeserializeSeed, Deserializer, FieldSeeds, FieldValues, FromParts,
+    GaveUp, Global, ListOf, ListSeed, Optional, Record, RoundTrip, RoundTripComposite, Serialize,
+    SerializeCompounds, Serializer, build, build_encoded, fields, laws, named, read_composite_type,
+    read_composite_type_encoded,
 };
 
 impl Serialize for Properties {
@@ -129,6 +129,75 @@ impl Record for Properties {
     ghost parts = { λ x. x.message_id ▸ x.user_id ▸ x.to ▸ x.subject ▸ x.reply_to ▸ x.correlation_id ▸ x.content_type ▸ x.content_encoding ▸ x.absolute_expiry_time ▸ x.creation_time ▸ x.group_id ▸ x.group_sequence ▸ x.reply_to_group_id ▸ tt };
 }
 
+impl FromParts for Properties {
+    fn from_parts(parts: <PropertiesFields as FieldSeeds>::Values) -> Properties {
+        let FieldValues {
+            value: message_id,
+            rest,
+        } = parts;
+        let FieldValues {
+            value: user_id,
+            rest,
+        } = rest;
+        let FieldValues { value: to, rest } = rest;
+        let FieldValues {
+            value: subject,
+            rest,
+        } = rest;
+        let FieldValues {
+            value: reply_to,
+            rest,
+        } = rest;
+        let FieldValues {
+            value: correlation_id,
+            rest,
+        } = rest;
+        let FieldValues {
+            value: content_type,
+            rest,
+        } = rest;
+        let FieldValues {
+            value: content_encoding,
+            rest,
+        } = rest;
+        let FieldValues {
+            value: absolute_expiry_time,
+            rest,
+        } = rest;
+        let FieldValues {
+            value: creation_time,
+            rest,
+        } = rest;
+        let FieldValues {
+            value: group_id,
+            rest,
+        } = rest;
+        let FieldValues {
+            value: group_sequence,
+            rest,
+        } = rest;
+        let FieldValues {
+            value: reply_to_group_id,
+            rest: (),
+        } = rest;
+        Properties {
+            message_id,
+            user_id,
+            to,
+            subject,
+            reply_to,
+            correlation_id,
+            content_type,
+            content_encoding,
+            absolute_expiry_time,
+            creation_time,
+            group_id,
+            group_sequence,
+            reply_to_group_id,
+        }
+    }
+}
+
 impl Composite for Properties {
     ghost use Rattle.std.specs.Prelude.{codes};
     ghost use Rattle.serde_amqp.specs.Derive.{OnFields, ReadsOptional, NoMoreFields};
@@ -168,76 +237,13 @@ impl Composite for Properties {
     }
 
     fn read_body<D: Deserializer>(alloc: Global, deserializer: D) -> Result<Properties, D::Error> {
-        let FieldValues {
-            value: message_id,
-            rest,
-        } = read::<Properties, D, _>(
+        build::<Properties, D, _>(
             alloc,
             deserializer,
             ListSeed(
                 named! { "message-id"?, "user-id"?, "to"?, "subject"?, "reply-to"?, "correlation-id"?, "content-type"?, "content-encoding"?, "absolute-expiry-time"?, "creation-time"?, "group-id"?, "group-sequence"?, "reply-to-group-id"? },
             ),
-        )?;
-        let FieldValues {
-            value: user_id,
-            rest,
-        } = rest;
-        let FieldValues { value: to, rest } = rest;
-        let FieldValues {
-            value: subject,
-            rest,
-        } = rest;
-        let FieldValues {
-            value: reply_to,
-            rest,
-        } = rest;
-        let FieldValues {
-            value: correlation_id,
-            rest,
-        } = rest;
-        let FieldValues {
-            value: content_type,
-            rest,
-        } = rest;
-        let FieldValues {
-            value: content_encoding,
-            rest,
-        } = rest;
-        let FieldValues {
-            value: absolute_expiry_time,
-            rest,
-        } = rest;
-        let FieldValues {
-            value: creation_time,
-            rest,
-        } = rest;
-        let FieldValues {
-            value: group_id,
-            rest,
-        } = rest;
-        let FieldValues {
-            value: group_sequence,
-            rest,
-        } = rest;
-        let FieldValues {
-            value: reply_to_group_id,
-            rest: (),
-        } = rest;
-        Ok(Properties {
-            message_id,
-            user_id,
-            to,
-            subject,
-            reply_to,
-            correlation_id,
-            content_type,
-            content_encoding,
-            absolute_expiry_time,
-            creation_time,
-            group_id,
-            group_sequence,
-            reply_to_group_id,
-        })
+        )
     }
 
     fn read_body_encoded(
@@ -246,73 +252,15 @@ impl Composite for Properties {
         input: &mut &[u8],
         depth: u16,
     ) -> Result<Properties, GaveUp> {
-        let seed = ListSeed(
-            named! { "message-id"?, "user-id"?, "to"?, "subject"?, "reply-to"?, "correlation-id"?, "content-type"?, "content-encoding"?, "absolute-expiry-time"?, "creation-time"?, "group-id"?, "group-sequence"?, "reply-to-group-id"? },
-        );
-        let FieldValues {
-            value: message_id,
-            rest,
-        } = read_parts_encoded::<Properties, _>(alloc, code, input, depth, seed)?;
-        let FieldValues {
-            value: user_id,
-            rest,
-        } = rest;
-        let FieldValues { value: to, rest } = rest;
-        let FieldValues {
-            value: subject,
-            rest,
-        } = rest;
-        let FieldValues {
-            value: reply_to,
-            rest,
-        } = rest;
-        let FieldValues {
-            value: correlation_id,
-            rest,
-        } = rest;
-        let FieldValues {
-            value: content_type,
-            rest,
-        } = rest;
-        let FieldValues {
-            value: content_encoding,
-            rest,
-        } = rest;
-        let FieldValues {
-            value: absolute_expiry_time,
-            rest,
-        } = rest;
-        let FieldValues {
-            value: creation_time,
-            rest,
-        } = rest;
-        let FieldValues {
-            value: group_id,
-            rest,
-        } = rest;
-        let FieldValues {
-            value: group_sequence,
-            rest,
-        } = rest;
-        let FieldValues {
-            value: reply_to_group_id,
-            rest: (),
-        } = rest;
-        Ok(Properties {
-            message_id,
-            user_id,
-            to,
-            subject,
-            reply_to,
-            correlation_id,
-            content_type,
-            content_encoding,
-            absolute_expiry_time,
-            creation_time,
-            group_id,
-            group_sequence,
-            reply_to_group_id,
-        })
+        build_encoded::<Properties, _>(
+            alloc,
+            code,
+            input,
+            depth,
+            ListSeed(
+                named! { "message-id"?, "user-id"?, "to"?, "subject"?, "reply-to"?, "correlation-id"?, "content-type"?, "content-encoding"?, "absolute-expiry-time"?, "creation-time"?, "group-id"?, "group-sequence"?, "reply-to-group-id"? },
+            ),
+        )
     }
 }
 

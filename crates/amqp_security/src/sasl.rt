@@ -52,9 +52,9 @@ pub struct SaslResponse {
 
 // amqp: the impls below are written by tools/derive from the annotations above
 use serde_amqp::derive::{
-    Composite, Deserialize, DeserializeSeed, Deserializer, FieldSeeds, FieldValues, Global, ListOf,
-    ListSeed, Optional, Record, Required, RoundTrip, RoundTripComposite, Serialize,
-    SerializeCompounds, Serializer, fields, laws, named, read, read_composite_type,
+    Composite, Deserialize, DeserializeSeed, Deserializer, FieldSeeds, FieldValues, FromParts,
+    Global, ListOf, ListSeed, Optional, Record, Required, RoundTrip, RoundTripComposite, Serialize,
+    SerializeCompounds, Serializer, build, fields, laws, named, read_composite_type,
 };
 
 impl Serialize for SaslMechanisms {
@@ -84,6 +84,18 @@ impl Record for SaslMechanisms {
     type Values = <SaslMechanismsFields as FieldSeeds>::Values;
 
     ghost parts = { λ x. x.sasl_server_mechanisms ▸ tt };
+}
+
+impl FromParts for SaslMechanisms {
+    fn from_parts(parts: <SaslMechanismsFields as FieldSeeds>::Values) -> SaslMechanisms {
+        let FieldValues {
+            value: sasl_server_mechanisms,
+            rest: (),
+        } = parts;
+        SaslMechanisms {
+            sasl_server_mechanisms,
+        }
+    }
 }
 
 impl Composite for SaslMechanisms {
@@ -116,17 +128,11 @@ impl Composite for SaslMechanisms {
         alloc: Global,
         deserializer: D,
     ) -> Result<SaslMechanisms, D::Error> {
-        let FieldValues {
-            value: sasl_server_mechanisms,
-            rest: (),
-        } = read::<SaslMechanisms, D, _>(
+        build::<SaslMechanisms, D, _>(
             alloc,
             deserializer,
             ListSeed(named! { "sasl-server-mechanisms" }),
-        )?;
-        Ok(SaslMechanisms {
-            sasl_server_mechanisms,
-        })
+        )
     }
 }
 
@@ -196,6 +202,28 @@ impl Record for SaslInit {
     ghost parts = { λ x. x.mechanism ▸ x.initial_response ▸ x.hostname ▸ tt };
 }
 
+impl FromParts for SaslInit {
+    fn from_parts(parts: <SaslInitFields as FieldSeeds>::Values) -> SaslInit {
+        let FieldValues {
+            value: mechanism,
+            rest,
+        } = parts;
+        let FieldValues {
+            value: initial_response,
+            rest,
+        } = rest;
+        let FieldValues {
+            value: hostname,
+            rest: (),
+        } = rest;
+        SaslInit {
+            mechanism,
+            initial_response,
+            hostname,
+        }
+    }
+}
+
 impl Composite for SaslInit {
     ghost use Rattle.std.specs.Prelude.{codes};
     ghost use Rattle.serde_amqp.specs.Derive.{OnFields, ReadsRequired, ReadsOptional, NoMoreFields};
@@ -225,27 +253,11 @@ impl Composite for SaslInit {
     }
 
     fn read_body<D: Deserializer>(alloc: Global, deserializer: D) -> Result<SaslInit, D::Error> {
-        let FieldValues {
-            value: mechanism,
-            rest,
-        } = read::<SaslInit, D, _>(
+        build::<SaslInit, D, _>(
             alloc,
             deserializer,
             ListSeed(named! { "mechanism", "initial-response"?, "hostname"? }),
-        )?;
-        let FieldValues {
-            value: initial_response,
-            rest,
-        } = rest;
-        let FieldValues {
-            value: hostname,
-            rest: (),
-        } = rest;
-        Ok(SaslInit {
-            mechanism,
-            initial_response,
-            hostname,
-        })
+        )
     }
 }
 
@@ -308,6 +320,16 @@ impl Record for SaslChallenge {
     ghost parts = { λ x. x.challenge ▸ tt };
 }
 
+impl FromParts for SaslChallenge {
+    fn from_parts(parts: <SaslChallengeFields as FieldSeeds>::Values) -> SaslChallenge {
+        let FieldValues {
+            value: challenge,
+            rest: (),
+        } = parts;
+        SaslChallenge { challenge }
+    }
+}
+
 impl Composite for SaslChallenge {
     ghost use Rattle.std.specs.Prelude.{codes};
     ghost use Rattle.serde_amqp.specs.Derive.{OnFields, ReadsRequired, NoMoreFields};
@@ -338,11 +360,7 @@ impl Composite for SaslChallenge {
         alloc: Global,
         deserializer: D,
     ) -> Result<SaslChallenge, D::Error> {
-        let FieldValues {
-            value: challenge,
-            rest: (),
-        } = read::<SaslChallenge, D, _>(alloc, deserializer, ListSeed(named! { "challenge" }))?;
-        Ok(SaslChallenge { challenge })
+        build::<SaslChallenge, D, _>(alloc, deserializer, ListSeed(named! { "challenge" }))
     }
 }
 
@@ -408,6 +426,16 @@ impl Record for SaslResponse {
     ghost parts = { λ x. x.response ▸ tt };
 }
 
+impl FromParts for SaslResponse {
+    fn from_parts(parts: <SaslResponseFields as FieldSeeds>::Values) -> SaslResponse {
+        let FieldValues {
+            value: response,
+            rest: (),
+        } = parts;
+        SaslResponse { response }
+    }
+}
+
 impl Composite for SaslResponse {
     ghost use Rattle.std.specs.Prelude.{codes};
     ghost use Rattle.serde_amqp.specs.Derive.{OnFields, ReadsRequired, NoMoreFields};
@@ -438,11 +466,7 @@ impl Composite for SaslResponse {
         alloc: Global,
         deserializer: D,
     ) -> Result<SaslResponse, D::Error> {
-        let FieldValues {
-            value: response,
-            rest: (),
-        } = read::<SaslResponse, D, _>(alloc, deserializer, ListSeed(named! { "response" }))?;
-        Ok(SaslResponse { response })
+        build::<SaslResponse, D, _>(alloc, deserializer, ListSeed(named! { "response" }))
     }
 }
 

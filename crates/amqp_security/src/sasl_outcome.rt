@@ -37,9 +37,9 @@ pub enum SaslCode {
 // amqp: the impls below are written by tools/derive from the annotations above
 use serde_amqp::derive::{
     Composite, Deserialize, DeserializeError, DeserializeSeed, Deserializer, FieldSeeds,
-    FieldValues, FixedContent, GaveUp, Global, ListOf, ListSeed, Optional, Record, Required,
-    RoundTrip, RoundTripComposite, Serialize, SerializeCompounds, Serializer, fields, laws, named,
-    read, read_composite_type,
+    FieldValues, FixedContent, FromParts, GaveUp, Global, ListOf, ListSeed, Optional, Record,
+    Required, RoundTrip, RoundTripComposite, Serialize, SerializeCompounds, Serializer, build,
+    fields, laws, named, read_composite_type,
 };
 
 impl Serialize for SaslOutcome {
@@ -73,6 +73,20 @@ impl Record for SaslOutcome {
     ghost parts = { λ x. x.code ▸ x.additional_data ▸ tt };
 }
 
+impl FromParts for SaslOutcome {
+    fn from_parts(parts: <SaslOutcomeFields as FieldSeeds>::Values) -> SaslOutcome {
+        let FieldValues { value: code, rest } = parts;
+        let FieldValues {
+            value: additional_data,
+            rest: (),
+        } = rest;
+        SaslOutcome {
+            code,
+            additional_data,
+        }
+    }
+}
+
 impl Composite for SaslOutcome {
     ghost use Rattle.std.specs.Prelude.{codes};
     ghost use Rattle.serde_amqp.specs.Derive.{OnFields, ReadsRequired, ReadsOptional, NoMoreFields};
@@ -101,19 +115,11 @@ impl Composite for SaslOutcome {
     }
 
     fn read_body<D: Deserializer>(alloc: Global, deserializer: D) -> Result<SaslOutcome, D::Error> {
-        let FieldValues { value: code, rest } = read::<SaslOutcome, D, _>(
+        build::<SaslOutcome, D, _>(
             alloc,
             deserializer,
             ListSeed(named! { "code", "additional-data"? }),
-        )?;
-        let FieldValues {
-            value: additional_data,
-            rest: (),
-        } = rest;
-        Ok(SaslOutcome {
-            code,
-            additional_data,
-        })
+        )
     }
 }
 

@@ -49,9 +49,10 @@ pub enum AnyTarget {
 // amqp: the impls below are written by tools/derive from the annotations above
 use serde_amqp::derive::{
     Alternatives, Composite, Content, Deserialize, DeserializeError, DeserializeSeed, Deserializer,
-    Either, FieldSeeds, FieldValues, GaveUp, Global, ListOf, ListSeed, Name, Never, Optional,
-    Record, RoundTrip, RoundTripAlternatives, RoundTripComposite, Serialize, SerializeCompounds,
-    Serializer, fields, laws, named, read, read_alternatives, read_composite_type,
+    Either, FieldSeeds, FieldValues, FromParts, GaveUp, Global, ListOf, ListSeed, Name, Never,
+    Optional, Record, RoundTrip, RoundTripAlternatives, RoundTripComposite, Serialize,
+    SerializeCompounds, Serializer, build, fields, laws, named, read_alternatives,
+    read_composite_type,
 };
 
 impl Serialize for Coordinator {
@@ -83,6 +84,16 @@ impl Record for Coordinator {
     ghost parts = { λ x. x.capabilities ▸ tt };
 }
 
+impl FromParts for Coordinator {
+    fn from_parts(parts: <CoordinatorFields as FieldSeeds>::Values) -> Coordinator {
+        let FieldValues {
+            value: capabilities,
+            rest: (),
+        } = parts;
+        Coordinator { capabilities }
+    }
+}
+
 impl Composite for Coordinator {
     ghost use Rattle.std.specs.Prelude.{codes};
     ghost use Rattle.serde_amqp.specs.Derive.{OnFields, ReadsOptional, NoMoreFields};
@@ -110,11 +121,7 @@ impl Composite for Coordinator {
     }
 
     fn read_body<D: Deserializer>(alloc: Global, deserializer: D) -> Result<Coordinator, D::Error> {
-        let FieldValues {
-            value: capabilities,
-            rest: (),
-        } = read::<Coordinator, D, _>(alloc, deserializer, ListSeed(named! { "capabilities"? }))?;
-        Ok(Coordinator { capabilities })
+        build::<Coordinator, D, _>(alloc, deserializer, ListSeed(named! { "capabilities"? }))
     }
 }
 

@@ -68,9 +68,9 @@ impl Source {
 
 // amqp: the impls below are written by tools/derive from the annotations above
 use serde_amqp::derive::{
-    Composite, Deserialize, DeserializeSeed, Deserializer, FieldSeeds, FieldValues, Global, ListOf,
-    ListSeed, Optional, Record, RoundTrip, RoundTripComposite, Serialize, SerializeCompounds,
-    Serializer, fields, laws, named, read, read_composite_type,
+    Composite, Deserialize, DeserializeSeed, Deserializer, FieldSeeds, FieldValues, FromParts,
+    Global, ListOf, ListSeed, Optional, Record, RoundTrip, RoundTripComposite, Serialize,
+    SerializeCompounds, Serializer, build, fields, laws, named, read_composite_type,
 };
 
 impl Serialize for Source {
@@ -149,53 +149,12 @@ impl Record for Source {
     ghost parts = { λ x. x.address ▸ x.durable ▸ x.expiry_policy ▸ x.timeout ▸ x.dynamic ▸ x.dynamic_node_properties ▸ x.distribution_mode ▸ x.filter ▸ x.default_outcome ▸ x.outcomes ▸ x.capabilities ▸ tt };
 }
 
-impl Composite for Source {
-    ghost use Rattle.std.specs.Prelude.{codes};
-    ghost use Rattle.serde_amqp.specs.Derive.{OnFields, ReadsOptional, NoMoreFields};
-
-    ghost descriptor_code = { 0x28 };
-
-    ghost descriptor_name = { codes "amqp:source:list" };
-
-    ghost reads = { λ t x. OnFields (
-        ReadsOptional (codes "address") ⟦<Address as Deserialize>⟧.reads x.address (
-        ReadsOptional (codes "durable") ⟦<TerminusDurability as Deserialize>⟧.reads x.durable (
-        ReadsOptional (codes "expiry-policy") ⟦<TerminusExpiryPolicy as Deserialize>⟧.reads x.expiry_policy (
-        ReadsOptional (codes "timeout") ⟦<u32 as Deserialize>⟧.reads x.timeout (
-        ReadsOptional (codes "dynamic") ⟦<bool as Deserialize>⟧.reads x.dynamic (
-        ReadsOptional (codes "dynamic-node-properties") ⟦<OrderedMap<Symbol, Value> as Deserialize>⟧.reads x.dynamic_node_properties (
-        ReadsOptional (codes "distribution-mode") ⟦<DistributionMode as Deserialize>⟧.reads x.distribution_mode (
-        ReadsOptional (codes "filter") ⟦<OrderedMap<Symbol, Value> as Deserialize>⟧.reads x.filter (
-        ReadsOptional (codes "default-outcome") ⟦<Outcome as Deserialize>⟧.reads x.default_outcome (
-        ReadsOptional (codes "outcomes") ⟦<Multiple<Symbol> as Deserialize>⟧.reads x.outcomes (
-        ReadsOptional (codes "capabilities") ⟦<Multiple<Symbol> as Deserialize>⟧.reads x.capabilities
-        NoMoreFields))))))))))) t };
-
-    ghost image = { λ x. ⟦<ListSeed<SourceFields> as DeserializeSeed>⟧.short (⟦<Source as Record>⟧.parts x) };
-
-    ghost restorable = { λ x. ⟦<ListSeed<SourceFields> as DeserializeSeed>⟧.restorable (⟦<Source as Record>⟧.parts x) };
-
-    ghost same = { λ x y. ⟦<ListSeed<SourceFields> as DeserializeSeed>⟧.same (⟦<Source as Record>⟧.parts x) (⟦<Source as Record>⟧.parts y) };
-
-    fn code() -> u64 {
-        0x28
-    }
-
-    fn name() -> &'static str {
-        "amqp:source:list"
-    }
-
-    fn read_body<D: Deserializer>(alloc: Global, deserializer: D) -> Result<Source, D::Error> {
+impl FromParts for Source {
+    fn from_parts(parts: <SourceFields as FieldSeeds>::Values) -> Source {
         let FieldValues {
             value: address,
             rest,
-        } = read::<Source, D, _>(
-            alloc,
-            deserializer,
-            ListSeed(
-                named! { "address"?, "durable"?, "expiry-policy"?, "timeout"?, "dynamic"?, "dynamic-node-properties"?, "distribution-mode"?, "filter"?, "default-outcome"?, "outcomes"?, "capabilities"? },
-            ),
-        )?;
+        } = parts;
         let FieldValues {
             value: durable,
             rest,
@@ -236,7 +195,7 @@ impl Composite for Source {
             value: capabilities,
             rest: (),
         } = rest;
-        Ok(Source {
+        Source {
             address,
             durable,
             expiry_policy,
@@ -248,7 +207,54 @@ impl Composite for Source {
             default_outcome,
             outcomes,
             capabilities,
-        })
+        }
+    }
+}
+
+impl Composite for Source {
+    ghost use Rattle.std.specs.Prelude.{codes};
+    ghost use Rattle.serde_amqp.specs.Derive.{OnFields, ReadsOptional, NoMoreFields};
+
+    ghost descriptor_code = { 0x28 };
+
+    ghost descriptor_name = { codes "amqp:source:list" };
+
+    ghost reads = { λ t x. OnFields (
+        ReadsOptional (codes "address") ⟦<Address as Deserialize>⟧.reads x.address (
+        ReadsOptional (codes "durable") ⟦<TerminusDurability as Deserialize>⟧.reads x.durable (
+        ReadsOptional (codes "expiry-policy") ⟦<TerminusExpiryPolicy as Deserialize>⟧.reads x.expiry_policy (
+        ReadsOptional (codes "timeout") ⟦<u32 as Deserialize>⟧.reads x.timeout (
+        ReadsOptional (codes "dynamic") ⟦<bool as Deserialize>⟧.reads x.dynamic (
+        ReadsOptional (codes "dynamic-node-properties") ⟦<OrderedMap<Symbol, Value> as Deserialize>⟧.reads x.dynamic_node_properties (
+        ReadsOptional (codes "distribution-mode") ⟦<DistributionMode as Deserialize>⟧.reads x.distribution_mode (
+        ReadsOptional (codes "filter") ⟦<OrderedMap<Symbol, Value> as Deserialize>⟧.reads x.filter (
+        ReadsOptional (codes "default-outcome") ⟦<Outcome as Deserialize>⟧.reads x.default_outcome (
+        ReadsOptional (codes "outcomes") ⟦<Multiple<Symbol> as Deserialize>⟧.reads x.outcomes (
+        ReadsOptional (codes "capabilities") ⟦<Multiple<Symbol> as Deserialize>⟧.reads x.capabilities
+        NoMoreFields))))))))))) t };
+
+    ghost image = { λ x. ⟦<ListSeed<SourceFields> as DeserializeSeed>⟧.short (⟦<Source as Record>⟧.parts x) };
+
+    ghost restorable = { λ x. ⟦<ListSeed<SourceFields> as DeserializeSeed>⟧.restorable (⟦<Source as Record>⟧.parts x) };
+
+    ghost same = { λ x y. ⟦<ListSeed<SourceFields> as DeserializeSeed>⟧.same (⟦<Source as Record>⟧.parts x) (⟦<Source as Record>⟧.parts y) };
+
+    fn code() -> u64 {
+        0x28
+    }
+
+    fn name() -> &'static str {
+        "amqp:source:list"
+    }
+
+    fn read_body<D: Deserializer>(alloc: Global, deserializer: D) -> Result<Source, D::Error> {
+        build::<Source, D, _>(
+            alloc,
+            deserializer,
+            ListSeed(
+                named! { "address"?, "durable"?, "expiry-policy"?, "timeout"?, "dynamic"?, "dynamic-node-properties"?, "distribution-mode"?, "filter"?, "default-outcome"?, "outcomes"?, "capabilities"? },
+            ),
+        )
     }
 }
 

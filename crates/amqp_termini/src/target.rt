@@ -59,9 +59,9 @@ impl Target {
 
 // amqp: the impls below are written by tools/derive from the annotations above
 use serde_amqp::derive::{
-    Composite, Deserialize, DeserializeSeed, Deserializer, FieldSeeds, FieldValues, Global, ListOf,
-    ListSeed, Optional, Record, RoundTrip, RoundTripComposite, Serialize, SerializeCompounds,
-    Serializer, fields, laws, named, read, read_composite_type,
+    Composite, Deserialize, DeserializeSeed, Deserializer, FieldSeeds, FieldValues, FromParts,
+    Global, ListOf, ListSeed, Optional, Record, RoundTrip, RoundTripComposite, Serialize,
+    SerializeCompounds, Serializer, build, fields, laws, named, read_composite_type,
 };
 
 impl Serialize for Target {
@@ -117,6 +117,48 @@ impl Record for Target {
     ghost parts = { λ x. x.address ▸ x.durable ▸ x.expiry_policy ▸ x.timeout ▸ x.dynamic ▸ x.dynamic_node_properties ▸ x.capabilities ▸ tt };
 }
 
+impl FromParts for Target {
+    fn from_parts(parts: <TargetFields as FieldSeeds>::Values) -> Target {
+        let FieldValues {
+            value: address,
+            rest,
+        } = parts;
+        let FieldValues {
+            value: durable,
+            rest,
+        } = rest;
+        let FieldValues {
+            value: expiry_policy,
+            rest,
+        } = rest;
+        let FieldValues {
+            value: timeout,
+            rest,
+        } = rest;
+        let FieldValues {
+            value: dynamic,
+            rest,
+        } = rest;
+        let FieldValues {
+            value: dynamic_node_properties,
+            rest,
+        } = rest;
+        let FieldValues {
+            value: capabilities,
+            rest: (),
+        } = rest;
+        Target {
+            address,
+            durable,
+            expiry_policy,
+            timeout,
+            dynamic,
+            dynamic_node_properties,
+            capabilities,
+        }
+    }
+}
+
 impl Composite for Target {
     ghost use Rattle.std.specs.Prelude.{codes};
     ghost use Rattle.serde_amqp.specs.Derive.{OnFields, ReadsOptional, NoMoreFields};
@@ -150,49 +192,13 @@ impl Composite for Target {
     }
 
     fn read_body<D: Deserializer>(alloc: Global, deserializer: D) -> Result<Target, D::Error> {
-        let FieldValues {
-            value: address,
-            rest,
-        } = read::<Target, D, _>(
+        build::<Target, D, _>(
             alloc,
             deserializer,
             ListSeed(
                 named! { "address"?, "durable"?, "expiry-policy"?, "timeout"?, "dynamic"?, "dynamic-node-properties"?, "capabilities"? },
             ),
-        )?;
-        let FieldValues {
-            value: durable,
-            rest,
-        } = rest;
-        let FieldValues {
-            value: expiry_policy,
-            rest,
-        } = rest;
-        let FieldValues {
-            value: timeout,
-            rest,
-        } = rest;
-        let FieldValues {
-            value: dynamic,
-            rest,
-        } = rest;
-        let FieldValues {
-            value: dynamic_node_properties,
-            rest,
-        } = rest;
-        let FieldValues {
-            value: capabilities,
-            rest: (),
-        } = rest;
-        Ok(Target {
-            address,
-            durable,
-            expiry_policy,
-            timeout,
-            dynamic,
-            dynamic_node_properties,
-            capabilities,
-        })
+        )
     }
 }
 

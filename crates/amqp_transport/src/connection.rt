@@ -37,10 +37,10 @@ pub struct Open {
 
 // amqp: the impls below are written by tools/derive from the annotations above
 use serde_amqp::derive::{
-    Composite, Deserialize, DeserializeSeed, Deserializer, FieldSeeds, FieldValues, GaveUp, Global,
-    ListOf, ListSeed, Optional, Record, Required, RoundTrip, RoundTripComposite, Serialize,
-    SerializeCompounds, Serializer, fields, laws, named, read, read_composite_type,
-    read_composite_type_encoded, read_parts_encoded,
+    Composite, Deserialize, DeserializeSeed, Deserializer, FieldSeeds, FieldValues, FromParts,
+    GaveUp, Global, ListOf, ListSeed, Optional, Record, Required, RoundTrip, RoundTripComposite,
+    Serialize, SerializeCompounds, Serializer, build, build_encoded, fields, laws, named,
+    read_composite_type, read_composite_type_encoded,
 };
 
 impl Serialize for Open {
@@ -114,6 +114,63 @@ impl Record for Open {
     ghost parts = { λ x. x.container_id ▸ x.hostname ▸ x.max_frame_size ▸ x.channel_max ▸ x.idle_time_out ▸ x.outgoing_locales ▸ x.incoming_locales ▸ x.offered_capabilities ▸ x.desired_capabilities ▸ x.properties ▸ tt };
 }
 
+impl FromParts for Open {
+    fn from_parts(parts: <OpenFields as FieldSeeds>::Values) -> Open {
+        let FieldValues {
+            value: container_id,
+            rest,
+        } = parts;
+        let FieldValues {
+            value: hostname,
+            rest,
+        } = rest;
+        let FieldValues {
+            value: max_frame_size,
+            rest,
+        } = rest;
+        let FieldValues {
+            value: channel_max,
+            rest,
+        } = rest;
+        let FieldValues {
+            value: idle_time_out,
+            rest,
+        } = rest;
+        let FieldValues {
+            value: outgoing_locales,
+            rest,
+        } = rest;
+        let FieldValues {
+            value: incoming_locales,
+            rest,
+        } = rest;
+        let FieldValues {
+            value: offered_capabilities,
+            rest,
+        } = rest;
+        let FieldValues {
+            value: desired_capabilities,
+            rest,
+        } = rest;
+        let FieldValues {
+            value: properties,
+            rest: (),
+        } = rest;
+        Open {
+            container_id,
+            hostname,
+            max_frame_size,
+            channel_max,
+            idle_time_out,
+            outgoing_locales,
+            incoming_locales,
+            offered_capabilities,
+            desired_capabilities,
+            properties,
+        }
+    }
+}
+
 impl Composite for Open {
     ghost use Rattle.std.specs.Prelude.{codes};
     ghost use Rattle.serde_amqp.specs.Derive.{OnFields, ReadsRequired, ReadsOptional, NoMoreFields};
@@ -150,64 +207,13 @@ impl Composite for Open {
     }
 
     fn read_body<D: Deserializer>(alloc: Global, deserializer: D) -> Result<Open, D::Error> {
-        let FieldValues {
-            value: container_id,
-            rest,
-        } = read::<Open, D, _>(
+        build::<Open, D, _>(
             alloc,
             deserializer,
             ListSeed(
                 named! { "container-id", "hostname"?, "max-frame-size"?, "channel-max"?, "idle-time-out"?, "outgoing-locales"?, "incoming-locales"?, "offered-capabilities"?, "desired-capabilities"?, "properties"? },
             ),
-        )?;
-        let FieldValues {
-            value: hostname,
-            rest,
-        } = rest;
-        let FieldValues {
-            value: max_frame_size,
-            rest,
-        } = rest;
-        let FieldValues {
-            value: channel_max,
-            rest,
-        } = rest;
-        let FieldValues {
-            value: idle_time_out,
-            rest,
-        } = rest;
-        let FieldValues {
-            value: outgoing_locales,
-            rest,
-        } = rest;
-        let FieldValues {
-            value: incoming_locales,
-            rest,
-        } = rest;
-        let FieldValues {
-            value: offered_capabilities,
-            rest,
-        } = rest;
-        let FieldValues {
-            value: desired_capabilities,
-            rest,
-        } = rest;
-        let FieldValues {
-            value: properties,
-            rest: (),
-        } = rest;
-        Ok(Open {
-            container_id,
-            hostname,
-            max_frame_size,
-            channel_max,
-            idle_time_out,
-            outgoing_locales,
-            incoming_locales,
-            offered_capabilities,
-            desired_capabilities,
-            properties,
-        })
+        )
     }
 
     fn read_body_encoded(
@@ -216,61 +222,15 @@ impl Composite for Open {
         input: &mut &[u8],
         depth: u16,
     ) -> Result<Open, GaveUp> {
-        let seed = ListSeed(
-            named! { "container-id", "hostname"?, "max-frame-size"?, "channel-max"?, "idle-time-out"?, "outgoing-locales"?, "incoming-locales"?, "offered-capabilities"?, "desired-capabilities"?, "properties"? },
-        );
-        let FieldValues {
-            value: container_id,
-            rest,
-        } = read_parts_encoded::<Open, _>(alloc, code, input, depth, seed)?;
-        let FieldValues {
-            value: hostname,
-            rest,
-        } = rest;
-        let FieldValues {
-            value: max_frame_size,
-            rest,
-        } = rest;
-        let FieldValues {
-            value: channel_max,
-            rest,
-        } = rest;
-        let FieldValues {
-            value: idle_time_out,
-            rest,
-        } = rest;
-        let FieldValues {
-            value: outgoing_locales,
-            rest,
-        } = rest;
-        let FieldValues {
-            value: incoming_locales,
-            rest,
-        } = rest;
-        let FieldValues {
-            value: offered_capabilities,
-            rest,
-        } = rest;
-        let FieldValues {
-            value: desired_capabilities,
-            rest,
-        } = rest;
-        let FieldValues {
-            value: properties,
-            rest: (),
-        } = rest;
-        Ok(Open {
-            container_id,
-            hostname,
-            max_frame_size,
-            channel_max,
-            idle_time_out,
-            outgoing_locales,
-            incoming_locales,
-            offered_capabilities,
-            desired_capabilities,
-            properties,
-        })
+        build_encoded::<Open, _>(
+            alloc,
+            code,
+            input,
+            depth,
+            ListSeed(
+                named! { "container-id", "hostname"?, "max-frame-size"?, "channel-max"?, "idle-time-out"?, "outgoing-locales"?, "incoming-locales"?, "offered-capabilities"?, "desired-capabilities"?, "properties"? },
+            ),
+        )
     }
 }
 

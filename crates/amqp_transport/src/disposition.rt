@@ -28,10 +28,10 @@ pub struct Disposition {
 
 // amqp: the impls below are written by tools/derive from the annotations above
 use serde_amqp::derive::{
-    Composite, Deserialize, DeserializeSeed, Deserializer, FieldSeeds, FieldValues, GaveUp, Global,
-    ListOf, ListSeed, Optional, Record, Required, RoundTrip, RoundTripComposite, Serialize,
-    SerializeCompounds, Serializer, fields, laws, named, read, read_composite_type,
-    read_composite_type_encoded, read_parts_encoded,
+    Composite, Deserialize, DeserializeSeed, Deserializer, FieldSeeds, FieldValues, FromParts,
+    GaveUp, Global, ListOf, ListSeed, Optional, Record, Required, RoundTrip, RoundTripComposite,
+    Serialize, SerializeCompounds, Serializer, build, build_encoded, fields, laws, named,
+    read_composite_type, read_composite_type_encoded,
 };
 
 impl Serialize for Disposition {
@@ -76,6 +76,31 @@ impl Record for Disposition {
     ghost parts = { λ x. x.role ▸ x.first ▸ x.last ▸ x.settled ▸ x.state ▸ x.batchable ▸ tt };
 }
 
+impl FromParts for Disposition {
+    fn from_parts(parts: <DispositionFields as FieldSeeds>::Values) -> Disposition {
+        let FieldValues { value: role, rest } = parts;
+        let FieldValues { value: first, rest } = rest;
+        let FieldValues { value: last, rest } = rest;
+        let FieldValues {
+            value: settled,
+            rest,
+        } = rest;
+        let FieldValues { value: state, rest } = rest;
+        let FieldValues {
+            value: batchable,
+            rest: (),
+        } = rest;
+        Disposition {
+            role,
+            first,
+            last,
+            settled,
+            state,
+            batchable,
+        }
+    }
+}
+
 impl Composite for Disposition {
     ghost use Rattle.std.specs.Prelude.{codes};
     ghost use Rattle.serde_amqp.specs.Derive.{OnFields, ReadsRequired, ReadsOptional, NoMoreFields};
@@ -108,30 +133,11 @@ impl Composite for Disposition {
     }
 
     fn read_body<D: Deserializer>(alloc: Global, deserializer: D) -> Result<Disposition, D::Error> {
-        let FieldValues { value: role, rest } = read::<Disposition, D, _>(
+        build::<Disposition, D, _>(
             alloc,
             deserializer,
             ListSeed(named! { "role", "first", "last"?, "settled"?, "state"?, "batchable"? }),
-        )?;
-        let FieldValues { value: first, rest } = rest;
-        let FieldValues { value: last, rest } = rest;
-        let FieldValues {
-            value: settled,
-            rest,
-        } = rest;
-        let FieldValues { value: state, rest } = rest;
-        let FieldValues {
-            value: batchable,
-            rest: (),
-        } = rest;
-        Ok(Disposition {
-            role,
-            first,
-            last,
-            settled,
-            state,
-            batchable,
-        })
+        )
     }
 
     fn read_body_encoded(
@@ -140,31 +146,13 @@ impl Composite for Disposition {
         input: &mut &[u8],
         depth: u16,
     ) -> Result<Disposition, GaveUp> {
-        let seed = ListSeed(
-            named! { "role", "first", "last"?, "settled"?, "state"?, "batchable"? },
-        );
-        let FieldValues { value: role, rest } = read_parts_encoded::<Disposition, _>(
-            alloc, code, input, depth, seed,
-        )?;
-        let FieldValues { value: first, rest } = rest;
-        let FieldValues { value: last, rest } = rest;
-        let FieldValues {
-            value: settled,
-            rest,
-        } = rest;
-        let FieldValues { value: state, rest } = rest;
-        let FieldValues {
-            value: batchable,
-            rest: (),
-        } = rest;
-        Ok(Disposition {
-            role,
-            first,
-            last,
-            settled,
-            state,
-            batchable,
-        })
+        build_encoded::<Disposition, _>(
+            alloc,
+            code,
+            input,
+            depth,
+            ListSeed(named! { "role", "first", "last"?, "settled"?, "state"?, "batchable"? }),
+        )
     }
 }
 

@@ -42,9 +42,9 @@ pub struct Close {
 
 // amqp: the impls below are written by tools/derive from the annotations above
 use serde_amqp::derive::{
-    Composite, Deserialize, DeserializeSeed, Deserializer, FieldSeeds, FieldValues, Global, ListOf,
-    ListSeed, Optional, Record, Required, RoundTrip, RoundTripComposite, Serialize,
-    SerializeCompounds, Serializer, fields, laws, named, read, read_composite_type,
+    Composite, Deserialize, DeserializeSeed, Deserializer, FieldSeeds, FieldValues, FromParts,
+    Global, ListOf, ListSeed, Optional, Record, Required, RoundTrip, RoundTripComposite, Serialize,
+    SerializeCompounds, Serializer, build, fields, laws, named, read_composite_type,
 };
 
 impl Serialize for Detach {
@@ -80,6 +80,28 @@ impl Record for Detach {
     ghost parts = { λ x. x.handle ▸ x.closed ▸ x.error ▸ tt };
 }
 
+impl FromParts for Detach {
+    fn from_parts(parts: <DetachFields as FieldSeeds>::Values) -> Detach {
+        let FieldValues {
+            value: handle,
+            rest,
+        } = parts;
+        let FieldValues {
+            value: closed,
+            rest,
+        } = rest;
+        let FieldValues {
+            value: error,
+            rest: (),
+        } = rest;
+        Detach {
+            handle,
+            closed,
+            error,
+        }
+    }
+}
+
 impl Composite for Detach {
     ghost use Rattle.std.specs.Prelude.{codes};
     ghost use Rattle.serde_amqp.specs.Derive.{OnFields, ReadsRequired, ReadsOptional, NoMoreFields};
@@ -109,27 +131,11 @@ impl Composite for Detach {
     }
 
     fn read_body<D: Deserializer>(alloc: Global, deserializer: D) -> Result<Detach, D::Error> {
-        let FieldValues {
-            value: handle,
-            rest,
-        } = read::<Detach, D, _>(
+        build::<Detach, D, _>(
             alloc,
             deserializer,
             ListSeed(named! { "handle", "closed"?, "error"? }),
-        )?;
-        let FieldValues {
-            value: closed,
-            rest,
-        } = rest;
-        let FieldValues {
-            value: error,
-            rest: (),
-        } = rest;
-        Ok(Detach {
-            handle,
-            closed,
-            error,
-        })
+        )
     }
 }
 
@@ -207,6 +213,16 @@ impl Record for End {
     ghost parts = { λ x. x.error ▸ tt };
 }
 
+impl FromParts for End {
+    fn from_parts(parts: <EndFields as FieldSeeds>::Values) -> End {
+        let FieldValues {
+            value: error,
+            rest: (),
+        } = parts;
+        End { error }
+    }
+}
+
 impl Composite for End {
     ghost use Rattle.std.specs.Prelude.{codes};
     ghost use Rattle.serde_amqp.specs.Derive.{OnFields, ReadsOptional, NoMoreFields};
@@ -234,11 +250,7 @@ impl Composite for End {
     }
 
     fn read_body<D: Deserializer>(alloc: Global, deserializer: D) -> Result<End, D::Error> {
-        let FieldValues {
-            value: error,
-            rest: (),
-        } = read::<End, D, _>(alloc, deserializer, ListSeed(named! { "error"? }))?;
-        Ok(End { error })
+        build::<End, D, _>(alloc, deserializer, ListSeed(named! { "error"? }))
     }
 }
 
@@ -301,6 +313,16 @@ impl Record for Close {
     ghost parts = { λ x. x.error ▸ tt };
 }
 
+impl FromParts for Close {
+    fn from_parts(parts: <CloseFields as FieldSeeds>::Values) -> Close {
+        let FieldValues {
+            value: error,
+            rest: (),
+        } = parts;
+        Close { error }
+    }
+}
+
 impl Composite for Close {
     ghost use Rattle.std.specs.Prelude.{codes};
     ghost use Rattle.serde_amqp.specs.Derive.{OnFields, ReadsOptional, NoMoreFields};
@@ -328,11 +350,7 @@ impl Composite for Close {
     }
 
     fn read_body<D: Deserializer>(alloc: Global, deserializer: D) -> Result<Close, D::Error> {
-        let FieldValues {
-            value: error,
-            rest: (),
-        } = read::<Close, D, _>(alloc, deserializer, ListSeed(named! { "error"? }))?;
-        Ok(Close { error })
+        build::<Close, D, _>(alloc, deserializer, ListSeed(named! { "error"? }))
     }
 }
 

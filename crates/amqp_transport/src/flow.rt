@@ -38,10 +38,10 @@ pub struct Flow {
 
 // amqp: the impls below are written by tools/derive from the annotations above
 use serde_amqp::derive::{
-    Composite, Deserialize, DeserializeSeed, Deserializer, FieldSeeds, FieldValues, GaveUp, Global,
-    ListOf, ListSeed, Optional, Record, Required, RoundTrip, RoundTripComposite, Serialize,
-    SerializeCompounds, Serializer, fields, laws, named, read, read_composite_type,
-    read_composite_type_encoded, read_parts_encoded,
+    Composite, Deserialize, DeserializeSeed, Deserializer, FieldSeeds, FieldValues, FromParts,
+    GaveUp, Global, ListOf, ListSeed, Optional, Record, Required, RoundTrip, RoundTripComposite,
+    Serialize, SerializeCompounds, Serializer, build, build_encoded, fields, laws, named,
+    read_composite_type, read_composite_type_encoded,
 };
 
 impl Serialize for Flow {
@@ -120,6 +120,62 @@ impl Record for Flow {
     ghost parts = { λ x. x.next_incoming_id ▸ x.incoming_window ▸ x.next_outgoing_id ▸ x.outgoing_window ▸ x.handle ▸ x.delivery_count ▸ x.link_credit ▸ x.available ▸ x.drain ▸ x.echo ▸ x.properties ▸ tt };
 }
 
+impl FromParts for Flow {
+    fn from_parts(parts: <FlowFields as FieldSeeds>::Values) -> Flow {
+        let FieldValues {
+            value: next_incoming_id,
+            rest,
+        } = parts;
+        let FieldValues {
+            value: incoming_window,
+            rest,
+        } = rest;
+        let FieldValues {
+            value: next_outgoing_id,
+            rest,
+        } = rest;
+        let FieldValues {
+            value: outgoing_window,
+            rest,
+        } = rest;
+        let FieldValues {
+            value: handle,
+            rest,
+        } = rest;
+        let FieldValues {
+            value: delivery_count,
+            rest,
+        } = rest;
+        let FieldValues {
+            value: link_credit,
+            rest,
+        } = rest;
+        let FieldValues {
+            value: available,
+            rest,
+        } = rest;
+        let FieldValues { value: drain, rest } = rest;
+        let FieldValues { value: echo, rest } = rest;
+        let FieldValues {
+            value: properties,
+            rest: (),
+        } = rest;
+        Flow {
+            next_incoming_id,
+            incoming_window,
+            next_outgoing_id,
+            outgoing_window,
+            handle,
+            delivery_count,
+            link_credit,
+            available,
+            drain,
+            echo,
+            properties,
+        }
+    }
+}
+
 impl Composite for Flow {
     ghost use Rattle.std.specs.Prelude.{codes};
     ghost use Rattle.serde_amqp.specs.Derive.{OnFields, ReadsRequired, ReadsOptional, NoMoreFields};
@@ -157,63 +213,13 @@ impl Composite for Flow {
     }
 
     fn read_body<D: Deserializer>(alloc: Global, deserializer: D) -> Result<Flow, D::Error> {
-        let FieldValues {
-            value: next_incoming_id,
-            rest,
-        } = read::<Flow, D, _>(
+        build::<Flow, D, _>(
             alloc,
             deserializer,
             ListSeed(
                 named! { "next-incoming-id"?, "incoming-window", "next-outgoing-id", "outgoing-window", "handle"?, "delivery-count"?, "link-credit"?, "available"?, "drain"?, "echo"?, "properties"? },
             ),
-        )?;
-        let FieldValues {
-            value: incoming_window,
-            rest,
-        } = rest;
-        let FieldValues {
-            value: next_outgoing_id,
-            rest,
-        } = rest;
-        let FieldValues {
-            value: outgoing_window,
-            rest,
-        } = rest;
-        let FieldValues {
-            value: handle,
-            rest,
-        } = rest;
-        let FieldValues {
-            value: delivery_count,
-            rest,
-        } = rest;
-        let FieldValues {
-            value: link_credit,
-            rest,
-        } = rest;
-        let FieldValues {
-            value: available,
-            rest,
-        } = rest;
-        let FieldValues { value: drain, rest } = rest;
-        let FieldValues { value: echo, rest } = rest;
-        let FieldValues {
-            value: properties,
-            rest: (),
-        } = rest;
-        Ok(Flow {
-            next_incoming_id,
-            incoming_window,
-            next_outgoing_id,
-            outgoing_window,
-            handle,
-            delivery_count,
-            link_credit,
-            available,
-            drain,
-            echo,
-            properties,
-        })
+        )
     }
 
     fn read_body_encoded(
@@ -222,60 +228,15 @@ impl Composite for Flow {
         input: &mut &[u8],
         depth: u16,
     ) -> Result<Flow, GaveUp> {
-        let seed = ListSeed(
-            named! { "next-incoming-id"?, "incoming-window", "next-outgoing-id", "outgoing-window", "handle"?, "delivery-count"?, "link-credit"?, "available"?, "drain"?, "echo"?, "properties"? },
-        );
-        let FieldValues {
-            value: next_incoming_id,
-            rest,
-        } = read_parts_encoded::<Flow, _>(alloc, code, input, depth, seed)?;
-        let FieldValues {
-            value: incoming_window,
-            rest,
-        } = rest;
-        let FieldValues {
-            value: next_outgoing_id,
-            rest,
-        } = rest;
-        let FieldValues {
-            value: outgoing_window,
-            rest,
-        } = rest;
-        let FieldValues {
-            value: handle,
-            rest,
-        } = rest;
-        let FieldValues {
-            value: delivery_count,
-            rest,
-        } = rest;
-        let FieldValues {
-            value: link_credit,
-            rest,
-        } = rest;
-        let FieldValues {
-            value: available,
-            rest,
-        } = rest;
-        let FieldValues { value: drain, rest } = rest;
-        let FieldValues { value: echo, rest } = rest;
-        let FieldValues {
-            value: properties,
-            rest: (),
-        } = rest;
-        Ok(Flow {
-            next_incoming_id,
-            incoming_window,
-            next_outgoing_id,
-            outgoing_window,
-            handle,
-            delivery_count,
-            link_credit,
-            available,
-            drain,
-            echo,
-            properties,
-        })
+        build_encoded::<Flow, _>(
+            alloc,
+            code,
+            input,
+            depth,
+            ListSeed(
+                named! { "next-incoming-id"?, "incoming-window", "next-outgoing-id", "outgoing-window", "handle"?, "delivery-count"?, "link-credit"?, "available"?, "drain"?, "echo"?, "properties"? },
+            ),
+        )
     }
 }
 

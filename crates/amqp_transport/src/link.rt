@@ -73,9 +73,9 @@ impl Attach {
 
 // amqp: the impls below are written by tools/derive from the annotations above
 use serde_amqp::derive::{
-    Composite, Deserialize, DeserializeSeed, Deserializer, FieldSeeds, FieldValues, Global, ListOf,
-    ListSeed, Optional, Record, Required, RoundTrip, RoundTripComposite, Serialize,
-    SerializeCompounds, Serializer, fields, laws, named, read, read_composite_type,
+    Composite, Deserialize, DeserializeSeed, Deserializer, FieldSeeds, FieldValues, FromParts,
+    Global, ListOf, ListSeed, Optional, Record, Required, RoundTrip, RoundTripComposite, Serialize,
+    SerializeCompounds, Serializer, build, fields, laws, named, read_composite_type,
 };
 
 impl Serialize for Attach {
@@ -172,53 +172,9 @@ impl Record for Attach {
     ghost parts = { λ x. x.name ▸ x.handle ▸ x.role ▸ x.snd_settle_mode ▸ x.rcv_settle_mode ▸ x.source ▸ x.target ▸ x.unsettled ▸ x.incomplete_unsettled ▸ x.initial_delivery_count ▸ x.max_message_size ▸ x.offered_capabilities ▸ x.desired_capabilities ▸ x.properties ▸ tt };
 }
 
-impl Composite for Attach {
-    ghost use Rattle.std.specs.Prelude.{codes};
-    ghost use Rattle.serde_amqp.specs.Derive.{OnFields, ReadsRequired, ReadsOptional, NoMoreFields};
-
-    ghost descriptor_code = { 0x12 };
-
-    ghost descriptor_name = { codes "amqp:attach:list" };
-
-    ghost reads = { λ t x. OnFields (
-        ReadsRequired (codes "name") ⟦<String as Deserialize>⟧.reads x.name (
-        ReadsRequired (codes "handle") ⟦<u32 as Deserialize>⟧.reads x.handle (
-        ReadsRequired (codes "role") ⟦<Role as Deserialize>⟧.reads x.role (
-        ReadsOptional (codes "snd-settle-mode") ⟦<SenderSettleMode as Deserialize>⟧.reads x.snd_settle_mode (
-        ReadsOptional (codes "rcv-settle-mode") ⟦<ReceiverSettleMode as Deserialize>⟧.reads x.rcv_settle_mode (
-        ReadsOptional (codes "source") ⟦<Source as Deserialize>⟧.reads x.source (
-        ReadsOptional (codes "target") ⟦<AnyTarget as Deserialize>⟧.reads x.target (
-        ReadsOptional (codes "unsettled") ⟦<OrderedMap<ByteBuf, Option<DeliveryState>> as Deserialize>⟧.reads x.unsettled (
-        ReadsOptional (codes "incomplete-unsettled") ⟦<bool as Deserialize>⟧.reads x.incomplete_unsettled (
-        ReadsOptional (codes "initial-delivery-count") ⟦<u32 as Deserialize>⟧.reads x.initial_delivery_count (
-        ReadsOptional (codes "max-message-size") ⟦<u64 as Deserialize>⟧.reads x.max_message_size (
-        ReadsOptional (codes "offered-capabilities") ⟦<Multiple<Symbol> as Deserialize>⟧.reads x.offered_capabilities (
-        ReadsOptional (codes "desired-capabilities") ⟦<Multiple<Symbol> as Deserialize>⟧.reads x.desired_capabilities (
-        ReadsOptional (codes "properties") ⟦<OrderedMap<Symbol, Value> as Deserialize>⟧.reads x.properties
-        NoMoreFields)))))))))))))) t };
-
-    ghost image = { λ x. ⟦<ListSeed<AttachFields> as DeserializeSeed>⟧.short (⟦<Attach as Record>⟧.parts x) };
-
-    ghost restorable = { λ x. ⟦<ListSeed<AttachFields> as DeserializeSeed>⟧.restorable (⟦<Attach as Record>⟧.parts x) };
-
-    ghost same = { λ x y. ⟦<ListSeed<AttachFields> as DeserializeSeed>⟧.same (⟦<Attach as Record>⟧.parts x) (⟦<Attach as Record>⟧.parts y) };
-
-    fn code() -> u64 {
-        0x12
-    }
-
-    fn name() -> &'static str {
-        "amqp:attach:list"
-    }
-
-    fn read_body<D: Deserializer>(alloc: Global, deserializer: D) -> Result<Attach, D::Error> {
-        let FieldValues { value: name, rest } = read::<Attach, D, _>(
-            alloc,
-            deserializer,
-            ListSeed(
-                named! { "name", "handle", "role", "snd-settle-mode"?, "rcv-settle-mode"?, "source"?, "target"?, "unsettled"?, "incomplete-unsettled"?, "initial-delivery-count"?, "max-message-size"?, "offered-capabilities"?, "desired-capabilities"?, "properties"? },
-            ),
-        )?;
+impl FromParts for Attach {
+    fn from_parts(parts: <AttachFields as FieldSeeds>::Values) -> Attach {
+        let FieldValues { value: name, rest } = parts;
         let FieldValues {
             value: handle,
             rest,
@@ -268,7 +224,7 @@ impl Composite for Attach {
             value: properties,
             rest: (),
         } = rest;
-        Ok(Attach {
+        Attach {
             name,
             handle,
             role,
@@ -283,7 +239,57 @@ impl Composite for Attach {
             offered_capabilities,
             desired_capabilities,
             properties,
-        })
+        }
+    }
+}
+
+impl Composite for Attach {
+    ghost use Rattle.std.specs.Prelude.{codes};
+    ghost use Rattle.serde_amqp.specs.Derive.{OnFields, ReadsRequired, ReadsOptional, NoMoreFields};
+
+    ghost descriptor_code = { 0x12 };
+
+    ghost descriptor_name = { codes "amqp:attach:list" };
+
+    ghost reads = { λ t x. OnFields (
+        ReadsRequired (codes "name") ⟦<String as Deserialize>⟧.reads x.name (
+        ReadsRequired (codes "handle") ⟦<u32 as Deserialize>⟧.reads x.handle (
+        ReadsRequired (codes "role") ⟦<Role as Deserialize>⟧.reads x.role (
+        ReadsOptional (codes "snd-settle-mode") ⟦<SenderSettleMode as Deserialize>⟧.reads x.snd_settle_mode (
+        ReadsOptional (codes "rcv-settle-mode") ⟦<ReceiverSettleMode as Deserialize>⟧.reads x.rcv_settle_mode (
+        ReadsOptional (codes "source") ⟦<Source as Deserialize>⟧.reads x.source (
+        ReadsOptional (codes "target") ⟦<AnyTarget as Deserialize>⟧.reads x.target (
+        ReadsOptional (codes "unsettled") ⟦<OrderedMap<ByteBuf, Option<DeliveryState>> as Deserialize>⟧.reads x.unsettled (
+        ReadsOptional (codes "incomplete-unsettled") ⟦<bool as Deserialize>⟧.reads x.incomplete_unsettled (
+        ReadsOptional (codes "initial-delivery-count") ⟦<u32 as Deserialize>⟧.reads x.initial_delivery_count (
+        ReadsOptional (codes "max-message-size") ⟦<u64 as Deserialize>⟧.reads x.max_message_size (
+        ReadsOptional (codes "offered-capabilities") ⟦<Multiple<Symbol> as Deserialize>⟧.reads x.offered_capabilities (
+        ReadsOptional (codes "desired-capabilities") ⟦<Multiple<Symbol> as Deserialize>⟧.reads x.desired_capabilities (
+        ReadsOptional (codes "properties") ⟦<OrderedMap<Symbol, Value> as Deserialize>⟧.reads x.properties
+        NoMoreFields)))))))))))))) t };
+
+    ghost image = { λ x. ⟦<ListSeed<AttachFields> as DeserializeSeed>⟧.short (⟦<Attach as Record>⟧.parts x) };
+
+    ghost restorable = { λ x. ⟦<ListSeed<AttachFields> as DeserializeSeed>⟧.restorable (⟦<Attach as Record>⟧.parts x) };
+
+    ghost same = { λ x y. ⟦<ListSeed<AttachFields> as DeserializeSeed>⟧.same (⟦<Attach as Record>⟧.parts x) (⟦<Attach as Record>⟧.parts y) };
+
+    fn code() -> u64 {
+        0x12
+    }
+
+    fn name() -> &'static str {
+        "amqp:attach:list"
+    }
+
+    fn read_body<D: Deserializer>(alloc: Global, deserializer: D) -> Result<Attach, D::Error> {
+        build::<Attach, D, _>(
+            alloc,
+            deserializer,
+            ListSeed(
+                named! { "name", "handle", "role", "snd-settle-mode"?, "rcv-settle-mode"?, "source"?, "target"?, "unsettled"?, "incomplete-unsettled"?, "initial-delivery-count"?, "max-message-size"?, "offered-capabilities"?, "desired-capabilities"?, "properties"? },
+            ),
+        )
     }
 }
 

@@ -31,9 +31,9 @@ pub struct Begin {
 
 // amqp: the impls below are written by tools/derive from the annotations above
 use serde_amqp::derive::{
-    Composite, Deserialize, DeserializeSeed, Deserializer, FieldSeeds, FieldValues, Global, ListOf,
-    ListSeed, Optional, Record, Required, RoundTrip, RoundTripComposite, Serialize,
-    SerializeCompounds, Serializer, fields, laws, named, read, read_composite_type,
+    Composite, Deserialize, DeserializeSeed, Deserializer, FieldSeeds, FieldValues, FromParts,
+    Global, ListOf, ListSeed, Optional, Record, Required, RoundTrip, RoundTripComposite, Serialize,
+    SerializeCompounds, Serializer, build, fields, laws, named, read_composite_type,
 };
 
 impl Serialize for Begin {
@@ -97,6 +97,53 @@ impl Record for Begin {
     ghost parts = { λ x. x.remote_channel ▸ x.next_outgoing_id ▸ x.incoming_window ▸ x.outgoing_window ▸ x.handle_max ▸ x.offered_capabilities ▸ x.desired_capabilities ▸ x.properties ▸ tt };
 }
 
+impl FromParts for Begin {
+    fn from_parts(parts: <BeginFields as FieldSeeds>::Values) -> Begin {
+        let FieldValues {
+            value: remote_channel,
+            rest,
+        } = parts;
+        let FieldValues {
+            value: next_outgoing_id,
+            rest,
+        } = rest;
+        let FieldValues {
+            value: incoming_window,
+            rest,
+        } = rest;
+        let FieldValues {
+            value: outgoing_window,
+            rest,
+        } = rest;
+        let FieldValues {
+            value: handle_max,
+            rest,
+        } = rest;
+        let FieldValues {
+            value: offered_capabilities,
+            rest,
+        } = rest;
+        let FieldValues {
+            value: desired_capabilities,
+            rest,
+        } = rest;
+        let FieldValues {
+            value: properties,
+            rest: (),
+        } = rest;
+        Begin {
+            remote_channel,
+            next_outgoing_id,
+            incoming_window,
+            outgoing_window,
+            handle_max,
+            offered_capabilities,
+            desired_capabilities,
+            properties,
+        }
+    }
+}
+
 impl Composite for Begin {
     ghost use Rattle.std.specs.Prelude.{codes};
     ghost use Rattle.serde_amqp.specs.Derive.{OnFields, ReadsRequired, ReadsOptional, NoMoreFields};
@@ -131,54 +178,13 @@ impl Composite for Begin {
     }
 
     fn read_body<D: Deserializer>(alloc: Global, deserializer: D) -> Result<Begin, D::Error> {
-        let FieldValues {
-            value: remote_channel,
-            rest,
-        } = read::<Begin, D, _>(
+        build::<Begin, D, _>(
             alloc,
             deserializer,
             ListSeed(
                 named! { "remote-channel"?, "next-outgoing-id", "incoming-window", "outgoing-window", "handle-max"?, "offered-capabilities"?, "desired-capabilities"?, "properties"? },
             ),
-        )?;
-        let FieldValues {
-            value: next_outgoing_id,
-            rest,
-        } = rest;
-        let FieldValues {
-            value: incoming_window,
-            rest,
-        } = rest;
-        let FieldValues {
-            value: outgoing_window,
-            rest,
-        } = rest;
-        let FieldValues {
-            value: handle_max,
-            rest,
-        } = rest;
-        let FieldValues {
-            value: offered_capabilities,
-            rest,
-        } = rest;
-        let FieldValues {
-            value: desired_capabilities,
-            rest,
-        } = rest;
-        let FieldValues {
-            value: properties,
-            rest: (),
-        } = rest;
-        Ok(Begin {
-            remote_channel,
-            next_outgoing_id,
-            incoming_window,
-            outgoing_window,
-            handle_max,
-            offered_capabilities,
-            desired_capabilities,
-            properties,
-        })
+        )
     }
 }
 

@@ -41,10 +41,10 @@ pub struct Transfer {
 
 // amqp: the impls below are written by tools/derive from the annotations above
 use serde_amqp::derive::{
-    Composite, Deserialize, DeserializeSeed, Deserializer, FieldSeeds, FieldValues, GaveUp, Global,
-    ListOf, ListSeed, Optional, Record, Required, RoundTrip, RoundTripComposite, Serialize,
-    SerializeCompounds, Serializer, fields, laws, named, read, read_composite_type,
-    read_composite_type_encoded, read_parts_encoded,
+    Composite, Deserialize, DeserializeSeed, Deserializer, FieldSeeds, FieldValues, FromParts,
+    GaveUp, Global, ListOf, ListSeed, Optional, Record, Required, RoundTrip, RoundTripComposite,
+    Serialize, SerializeCompounds, Serializer, build, build_encoded, fields, laws, named,
+    read_composite_type, read_composite_type_encoded,
 };
 
 impl Serialize for Transfer {
@@ -120,6 +120,62 @@ impl Record for Transfer {
     ghost parts = { λ x. x.handle ▸ x.delivery_id ▸ x.delivery_tag ▸ x.message_format ▸ x.settled ▸ x.more ▸ x.rcv_settle_mode ▸ x.state ▸ x.resume ▸ x.aborted ▸ x.batchable ▸ tt };
 }
 
+impl FromParts for Transfer {
+    fn from_parts(parts: <TransferFields as FieldSeeds>::Values) -> Transfer {
+        let FieldValues {
+            value: handle,
+            rest,
+        } = parts;
+        let FieldValues {
+            value: delivery_id,
+            rest,
+        } = rest;
+        let FieldValues {
+            value: delivery_tag,
+            rest,
+        } = rest;
+        let FieldValues {
+            value: message_format,
+            rest,
+        } = rest;
+        let FieldValues {
+            value: settled,
+            rest,
+        } = rest;
+        let FieldValues { value: more, rest } = rest;
+        let FieldValues {
+            value: rcv_settle_mode,
+            rest,
+        } = rest;
+        let FieldValues { value: state, rest } = rest;
+        let FieldValues {
+            value: resume,
+            rest,
+        } = rest;
+        let FieldValues {
+            value: aborted,
+            rest,
+        } = rest;
+        let FieldValues {
+            value: batchable,
+            rest: (),
+        } = rest;
+        Transfer {
+            handle,
+            delivery_id,
+            delivery_tag,
+            message_format,
+            settled,
+            more,
+            rcv_settle_mode,
+            state,
+            resume,
+            aborted,
+            batchable,
+        }
+    }
+}
+
 impl Composite for Transfer {
     ghost use Rattle.std.specs.Prelude.{codes};
     ghost use Rattle.serde_amqp.specs.Derive.{OnFields, ReadsRequired, ReadsOptional, NoMoreFields};
@@ -157,63 +213,13 @@ impl Composite for Transfer {
     }
 
     fn read_body<D: Deserializer>(alloc: Global, deserializer: D) -> Result<Transfer, D::Error> {
-        let FieldValues {
-            value: handle,
-            rest,
-        } = read::<Transfer, D, _>(
+        build::<Transfer, D, _>(
             alloc,
             deserializer,
             ListSeed(
                 named! { "handle", "delivery-id"?, "delivery-tag"?, "message-format"?, "settled"?, "more"?, "rcv-settle-mode"?, "state"?, "resume"?, "aborted"?, "batchable"? },
             ),
-        )?;
-        let FieldValues {
-            value: delivery_id,
-            rest,
-        } = rest;
-        let FieldValues {
-            value: delivery_tag,
-            rest,
-        } = rest;
-        let FieldValues {
-            value: message_format,
-            rest,
-        } = rest;
-        let FieldValues {
-            value: settled,
-            rest,
-        } = rest;
-        let FieldValues { value: more, rest } = rest;
-        let FieldValues {
-            value: rcv_settle_mode,
-            rest,
-        } = rest;
-        let FieldValues { value: state, rest } = rest;
-        let FieldValues {
-            value: resume,
-            rest,
-        } = rest;
-        let FieldValues {
-            value: aborted,
-            rest,
-        } = rest;
-        let FieldValues {
-            value: batchable,
-            rest: (),
-        } = rest;
-        Ok(Transfer {
-            handle,
-            delivery_id,
-            delivery_tag,
-            message_format,
-            settled,
-            more,
-            rcv_settle_mode,
-            state,
-            resume,
-            aborted,
-            batchable,
-        })
+        )
     }
 
     fn read_body_encoded(
@@ -222,60 +228,15 @@ impl Composite for Transfer {
         input: &mut &[u8],
         depth: u16,
     ) -> Result<Transfer, GaveUp> {
-        let seed = ListSeed(
-            named! { "handle", "delivery-id"?, "delivery-tag"?, "message-format"?, "settled"?, "more"?, "rcv-settle-mode"?, "state"?, "resume"?, "aborted"?, "batchable"? },
-        );
-        let FieldValues {
-            value: handle,
-            rest,
-        } = read_parts_encoded::<Transfer, _>(alloc, code, input, depth, seed)?;
-        let FieldValues {
-            value: delivery_id,
-            rest,
-        } = rest;
-        let FieldValues {
-            value: delivery_tag,
-            rest,
-        } = rest;
-        let FieldValues {
-            value: message_format,
-            rest,
-        } = rest;
-        let FieldValues {
-            value: settled,
-            rest,
-        } = rest;
-        let FieldValues { value: more, rest } = rest;
-        let FieldValues {
-            value: rcv_settle_mode,
-            rest,
-        } = rest;
-        let FieldValues { value: state, rest } = rest;
-        let FieldValues {
-            value: resume,
-            rest,
-        } = rest;
-        let FieldValues {
-            value: aborted,
-            rest,
-        } = rest;
-        let FieldValues {
-            value: batchable,
-            rest: (),
-        } = rest;
-        Ok(Transfer {
-            handle,
-            delivery_id,
-            delivery_tag,
-            message_format,
-            settled,
-            more,
-            rcv_settle_mode,
-            state,
-            resume,
-            aborted,
-            batchable,
-        })
+        build_encoded::<Transfer, _>(
+            alloc,
+            code,
+            input,
+            depth,
+            ListSeed(
+                named! { "handle", "delivery-id"?, "delivery-tag"?, "message-format"?, "settled"?, "more"?, "rcv-settle-mode"?, "state"?, "resume"?, "aborted"?, "batchable"? },
+            ),
+        )
     }
 }
 
