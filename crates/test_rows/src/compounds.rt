@@ -2,7 +2,7 @@
 
 use crate::composites::{Flow, Limits};
 use crate::results::results;
-use crate::types::read_as;
+use crate::types::{Input, read_as, read_once};
 use crate::values::shown;
 use amqp_data::{Array, Described, Error, OrderedMap, Symbol, TransparentVec};
 use amqp_de::de::Deserialize;
@@ -18,10 +18,10 @@ use std::hash::Hash;
 
 /// Reads the bytes as the type of this name. `image` is no type: the result is the image of the
 /// value itself.
-pub fn read(alloc: Global, name: &str, bytes: &[u8]) -> Result<String, Error> {
+pub fn read(alloc: Global, name: &str, bytes: Input<'_>) -> Result<String, Error> {
     match name {
         "image" => {
-            let value = decode_value(alloc, bytes)?;
+            let value = decode_value(alloc, bytes.bytes)?;
             shown(alloc, &Value::try_from_serializable(alloc, &value)?)
         }
         "Value" => read_as::<Value>(alloc, bytes),
@@ -37,7 +37,7 @@ pub fn read(alloc: Global, name: &str, bytes: &[u8]) -> Result<String, Error> {
     }
 }
 
-fn list(alloc: Global, name: &str, bytes: &[u8]) -> Result<String, Error> {
+fn list(alloc: Global, name: &str, bytes: Input<'_>) -> Result<String, Error> {
     match name {
         "(i32,bool)" => read_as::<(i32, bool)>(alloc, bytes),
         "(u8,u8)" => read_as::<(u8, u8)>(alloc, bytes),
@@ -54,7 +54,7 @@ fn list(alloc: Global, name: &str, bytes: &[u8]) -> Result<String, Error> {
     }
 }
 
-fn array(alloc: Global, name: &str, bytes: &[u8]) -> Result<String, Error> {
+fn array(alloc: Global, name: &str, bytes: Input<'_>) -> Result<String, Error> {
     match name {
         "Array<bool>" => read_as::<Array<bool>>(alloc, bytes),
         "Array<u8>" => read_as::<Array<u8>>(alloc, bytes),
@@ -64,7 +64,7 @@ fn array(alloc: Global, name: &str, bytes: &[u8]) -> Result<String, Error> {
     }
 }
 
-fn map(alloc: Global, name: &str, bytes: &[u8]) -> Result<String, Error> {
+fn map(alloc: Global, name: &str, bytes: Input<'_>) -> Result<String, Error> {
     match name {
         "OrderedMap<Symbol,i64>" => read_as::<OrderedMap<Symbol, i64>>(alloc, bytes),
         "OrderedMap<u32,bool>" => read_as::<OrderedMap<u32, bool>>(alloc, bytes),
@@ -83,7 +83,7 @@ fn map(alloc: Global, name: &str, bytes: &[u8]) -> Result<String, Error> {
 
 // Reads the bytes as a type with texts, lazy values or compounds inside, by the calls that
 // `tools/memory` makes with each allocation failing.
-fn nested(alloc: Global, name: &str, bytes: &[u8]) -> Result<String, Error> {
+fn nested(alloc: Global, name: &str, bytes: Input<'_>) -> Result<String, Error> {
     match name {
         "[String;2]" => read_as::<[String; 2]>(alloc, bytes),
         "Array<String>" => read_as::<Array<String>>(alloc, bytes),
@@ -106,9 +106,16 @@ fn nested(alloc: Global, name: &str, bytes: &[u8]) -> Result<String, Error> {
 // Reads the bytes as a hash map, and returns the results of its pairs in the order of the keys.
 fn hashed<K: Serialize + Deserialize + Hash + Eq + Ord>(
     alloc: Global,
-    bytes: &[u8],
+    input: Input<'_>,
 ) -> Result<String, Error> {
-    let map: HashMap<K, bool> = from_slice(alloc, bytes)?;
+    let map = if input.once {
+        match read_once::<HashMap<K, bool>>(alloc, input.bytes) {
+            Some(map) => map,
+            None => return Ok(String::from_str(alloc, "<gave up>")?),
+        }
+    } else {
+        from_slice::<HashMap<K, bool>>(alloc, input.bytes)?
+    };
     let mut sorted = BTreeMap::new(alloc);
     for (key, value) in map {
         drop(sorted.insert(key, value)?);

@@ -20,6 +20,7 @@
 //! | `cut_within LENGTH BYTES` | the result of `LazyValue::from_reader_limited`, and the bytes that are left |
 //! | `prefixes BYTES` | the number of proper prefixes, and of incomplete ones |
 //! | `read TYPE BYTES` | the value as this type: its results |
+//! | `once TYPE BYTES` | like `read`, by `Deserialize::read_encoded` alone |
 //! | `read_within LENGTH/ELEMENTS/LEVELS BYTES` | the `Value` by `from_slice_limited` and `from_reader_limited`: its results |
 //! | `readers BYTES` | the scalar types that read the value; for all others it is invalid |
 //! | `parts READER BYTES` | the value by this reader (`parts`, `visitors`): its `Debug` text |

@@ -38,12 +38,28 @@ const SCALARS: [&str; 21] = [
     "Symbol",
 ];
 
+/// The bytes of a value, and how it is read.
+#[derive(Clone, Copy)]
+pub struct Input<'a> {
+    pub bytes: &'a [u8],
+    /// Whether only `Deserialize::read_encoded` reads it.
+    pub once: bool,
+}
+
 /// Reads the value as a type; the arguments are `TYPE BYTES`.
-pub fn read(alloc: Global, arguments: &str) -> Result<String, Error> {
+pub fn read(alloc: Global, arguments: &str, once: bool) -> Result<String, Error> {
     let Some((name, bytes)) = arguments.split_once(' ') else {
         return Err(Error::Message("one argument"));
     };
-    by_name(alloc, name, &bytes_of(alloc, bytes)?)
+    let bytes = bytes_of(alloc, bytes)?;
+    by_name(
+        alloc,
+        name,
+        Input {
+            bytes: &bytes,
+            once,
+        },
+    )
 }
 
 /// Returns the names of the scalar types that read the value, or `none`. Any error other than
@@ -52,7 +68,7 @@ pub fn readers(alloc: Global, bytes: &[u8]) -> Result<String, Error> {
     let mut names = String::new(alloc);
     let invalid = refusal(alloc, &Error::InvalidValue)?;
     for name in &SCALARS {
-        let text = by_name(alloc, *name, bytes)?;
+        let text = by_name(alloc, *name, Input { bytes, once: false })?;
         if !text.starts_with('<') {
             names.push_str(if names.is_empty() { "" } else { " " })?;
             names.push_str(*name)?;
@@ -66,7 +82,7 @@ pub fn readers(alloc: Global, bytes: &[u8]) -> Result<String, Error> {
     Ok(names)
 }
 
-fn by_name(alloc: Global, name: &str, bytes: &[u8]) -> Result<String, Error> {
+fn by_name(alloc: Global, name: &str, bytes: Input<'_>) -> Result<String, Error> {
     if SCALARS.contains(&name) {
         scalar(alloc, name, bytes)
     } else {
@@ -75,8 +91,19 @@ fn by_name(alloc: Global, name: &str, bytes: &[u8]) -> Result<String, Error> {
 }
 
 /// Reads the bytes as this type by `decode_value` and `from_value`, and returns the results of what
-/// was read. Each other call that reads a type from bytes must have the same results.
-pub fn read_as<T: Serialize + Deserialize>(alloc: Global, bytes: &[u8]) -> Result<String, Error> {
+/// was read. Each other call that reads a type from bytes must have the same results. If the input
+/// says so, reads the bytes by `Deserialize::read_encoded` instead.
+pub fn read_as<T: Serialize + Deserialize>(
+    alloc: Global,
+    input: Input<'_>,
+) -> Result<String, Error> {
+    let bytes = input.bytes;
+    if input.once {
+        return match read_once::<T>(alloc, bytes) {
+            Some(read) => results(alloc, &read),
+            None => Ok(String::from_str(alloc, "<gave up>")?),
+        };
+    }
     let by_value = text_of(alloc, from_decoded::<T>(alloc, bytes))?;
     let by_slice = text_of(alloc, from_slice::<T>(alloc, bytes))?;
     if by_slice != by_value {
@@ -91,6 +118,16 @@ pub fn read_as<T: Serialize + Deserialize>(alloc: Global, bytes: &[u8]) -> Resul
         }
     }
     Ok(by_value)
+}
+
+/// Reads the type from all the bytes in one pass.
+pub fn read_once<T: Deserialize>(alloc: Global, bytes: &[u8]) -> Option<T> {
+    let (code, payload) = bytes.split_first()?;
+    let mut rest = payload;
+    match T::read_encoded(alloc, *code, &mut rest, 255) {
+        Ok(read) => { if rest.is_empty() { Some(read) } else { None } }
+        Err(_) => None,
+    }
 }
 
 /// Returns the results of what was read, or the error in angle brackets. Out of memory is returned
@@ -126,7 +163,7 @@ fn from_longer<T: Deserialize>(alloc: Global, bytes: &[u8]) -> Result<T, Error> 
     read
 }
 
-fn scalar(alloc: Global, name: &str, bytes: &[u8]) -> Result<String, Error> {
+fn scalar(alloc: Global, name: &str, bytes: Input<'_>) -> Result<String, Error> {
     match name {
         "()" => read_as::<()>(alloc, bytes),
         "bool" => read_as::<bool>(alloc, bytes),
@@ -144,7 +181,7 @@ fn scalar(alloc: Global, name: &str, bytes: &[u8]) -> Result<String, Error> {
     }
 }
 
-fn data(alloc: Global, name: &str, bytes: &[u8]) -> Result<String, Error> {
+fn data(alloc: Global, name: &str, bytes: Input<'_>) -> Result<String, Error> {
     match name {
         "F32Bits" => read_as::<F32Bits>(alloc, bytes),
         "F64Bits" => read_as::<F64Bits>(alloc, bytes),

@@ -35,7 +35,7 @@
 //! | rows of read_within | `from_slice_limited`, `from_reader_limited` |
 //! | rows of decode and read | `MapBuilder::new`, `MapBuilder::with_capacity`, `MapBuilder::into_value` |
 //! | rows of read | `from_value`, `from_slice`, `from_reader`, `ReadLazy::read`, `Deserializer::new` |
-//! | the same | `Deserialize::read_encoded`, `Deserialize::read_list`, `Deserialize::read_array`, `read_string`, `read_symbol`, `read_binary` |
+//! | the same | `Deserialize::read_encoded`, `Deserialize::read_list`, `Deserialize::read_array`, `Deserialize::have_distinct_trees`, `read_string`, `read_symbol`, `read_binary` |
 //! | the same | `read_value_after_code`, `split_descriptor`, `read_parts_encoded`, `DeserializeSeed::read_encoded`, `ListSeed::read_encoded` |
 //! | the same | `FieldSeeds::read_fields`, `Required::read_fields` |
 //! | types of one's own | `round_trip`, `round_trip_bytes`, `read`, `read_composite`, `read_described`, `TypeSeed::deserialize`, `ListSeed::deserialize`, `NamedSeed::deserialize` |
