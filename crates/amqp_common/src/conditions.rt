@@ -109,6 +109,8 @@ use serde_amqp::derive::{
 
 impl AmqpCondition {
     ghost use Rattle.std.specs.Prelude.{◌≡◌, List, ℕ, codes};
+    ghost use Rattle.std.specs.Prelude.{IfSome, IfNone};
+    ghost use Rattle.amqp_common.specs.declared.conditions.AmqpCondition.{AmqpCondition};
     ghost use Rattle.amqp_common.specs.declared.conditions.AmqpCondition.TheVariants as variant;
 
     /// Returns the text of the value.
@@ -130,6 +132,53 @@ impl AmqpCondition {
             AmqpCondition::IllegalState => "amqp:illegal-state",
             AmqpCondition::FrameSizeTooSmall => "amqp:frame-size-too-small",
         }
+    }
+
+    /// Returns the value with this text, if there is one.
+    pub fn from_text(text: &str) -> Option<AmqpCondition>
+        ensures some { IfSome result (λ x. text.now ≡ (elim x as (λ _. List ℕ) [ variant.InternalError ↦ codes "amqp:internal-error" | variant.NotFound ↦ codes "amqp:not-found" | variant.UnauthorizedAccess ↦ codes "amqp:unauthorized-access" | variant.DecodeError ↦ codes "amqp:decode-error" | variant.ResourceLimitExceeded ↦ codes "amqp:resource-limit-exceeded" | variant.NotAllowed ↦ codes "amqp:not-allowed" | variant.InvalidField ↦ codes "amqp:invalid-field" | variant.NotImplemented ↦ codes "amqp:not-implemented" | variant.ResourceLocked ↦ codes "amqp:resource-locked" | variant.PreconditionFailed ↦ codes "amqp:precondition-failed" | variant.ResourceDeleted ↦ codes "amqp:resource-deleted" | variant.IllegalState ↦ codes "amqp:illegal-state" | variant.FrameSizeTooSmall ↦ codes "amqp:frame-size-too-small" ])) }
+        ensures none { IfNone result ((x : AmqpCondition) → text.now ≡ (elim x as (λ _. List ℕ) [ variant.InternalError ↦ codes "amqp:internal-error" | variant.NotFound ↦ codes "amqp:not-found" | variant.UnauthorizedAccess ↦ codes "amqp:unauthorized-access" | variant.DecodeError ↦ codes "amqp:decode-error" | variant.ResourceLimitExceeded ↦ codes "amqp:resource-limit-exceeded" | variant.NotAllowed ↦ codes "amqp:not-allowed" | variant.InvalidField ↦ codes "amqp:invalid-field" | variant.NotImplemented ↦ codes "amqp:not-implemented" | variant.ResourceLocked ↦ codes "amqp:resource-locked" | variant.PreconditionFailed ↦ codes "amqp:precondition-failed" | variant.ResourceDeleted ↦ codes "amqp:resource-deleted" | variant.IllegalState ↦ codes "amqp:illegal-state" | variant.FrameSizeTooSmall ↦ codes "amqp:frame-size-too-small" ]) → ⊥) }
+    {
+        if text == "amqp:internal-error" {
+            return Some(AmqpCondition::InternalError);
+        }
+        if text == "amqp:not-found" {
+            return Some(AmqpCondition::NotFound);
+        }
+        if text == "amqp:unauthorized-access" {
+            return Some(AmqpCondition::UnauthorizedAccess);
+        }
+        if text == "amqp:decode-error" {
+            return Some(AmqpCondition::DecodeError);
+        }
+        if text == "amqp:resource-limit-exceeded" {
+            return Some(AmqpCondition::ResourceLimitExceeded);
+        }
+        if text == "amqp:not-allowed" {
+            return Some(AmqpCondition::NotAllowed);
+        }
+        if text == "amqp:invalid-field" {
+            return Some(AmqpCondition::InvalidField);
+        }
+        if text == "amqp:not-implemented" {
+            return Some(AmqpCondition::NotImplemented);
+        }
+        if text == "amqp:resource-locked" {
+            return Some(AmqpCondition::ResourceLocked);
+        }
+        if text == "amqp:precondition-failed" {
+            return Some(AmqpCondition::PreconditionFailed);
+        }
+        if text == "amqp:resource-deleted" {
+            return Some(AmqpCondition::ResourceDeleted);
+        }
+        if text == "amqp:illegal-state" {
+            return Some(AmqpCondition::IllegalState);
+        }
+        if text == "amqp:frame-size-too-small" {
+            return Some(AmqpCondition::FrameSizeTooSmall);
+        }
+        None
     }
 }
 
@@ -164,47 +213,10 @@ impl Deserialize for AmqpCondition {
     ) -> Result<AmqpCondition, D::Error> {
         match deserializer.open() {
             Content::Symbol(text) => {
-                let text = text.as_inner().as_str();
-                if text == "amqp:internal-error" {
-                    return Ok(AmqpCondition::InternalError);
+                match AmqpCondition::from_text(text.as_inner().as_str()) {
+                    Some(value) => Ok(value),
+                    None => Err(D::Error::invalid_value()),
                 }
-                if text == "amqp:not-found" {
-                    return Ok(AmqpCondition::NotFound);
-                }
-                if text == "amqp:unauthorized-access" {
-                    return Ok(AmqpCondition::UnauthorizedAccess);
-                }
-                if text == "amqp:decode-error" {
-                    return Ok(AmqpCondition::DecodeError);
-                }
-                if text == "amqp:resource-limit-exceeded" {
-                    return Ok(AmqpCondition::ResourceLimitExceeded);
-                }
-                if text == "amqp:not-allowed" {
-                    return Ok(AmqpCondition::NotAllowed);
-                }
-                if text == "amqp:invalid-field" {
-                    return Ok(AmqpCondition::InvalidField);
-                }
-                if text == "amqp:not-implemented" {
-                    return Ok(AmqpCondition::NotImplemented);
-                }
-                if text == "amqp:resource-locked" {
-                    return Ok(AmqpCondition::ResourceLocked);
-                }
-                if text == "amqp:precondition-failed" {
-                    return Ok(AmqpCondition::PreconditionFailed);
-                }
-                if text == "amqp:resource-deleted" {
-                    return Ok(AmqpCondition::ResourceDeleted);
-                }
-                if text == "amqp:illegal-state" {
-                    return Ok(AmqpCondition::IllegalState);
-                }
-                if text == "amqp:frame-size-too-small" {
-                    return Ok(AmqpCondition::FrameSizeTooSmall);
-                }
-                Err(D::Error::invalid_value())
             }
             _ => Err(D::Error::invalid_value()),
         }
@@ -219,47 +231,10 @@ impl Deserialize for AmqpCondition {
         let text = <serde_amqp::primitives::Symbol as Deserialize>::read_encoded(
             alloc, code, input, depth,
         )?;
-        let text = text.as_inner().as_str();
-        if text == "amqp:internal-error" {
-            return Ok(AmqpCondition::InternalError);
+        match AmqpCondition::from_text(text.as_inner().as_str()) {
+            Some(value) => Ok(value),
+            None => Err(GaveUp),
         }
-        if text == "amqp:not-found" {
-            return Ok(AmqpCondition::NotFound);
-        }
-        if text == "amqp:unauthorized-access" {
-            return Ok(AmqpCondition::UnauthorizedAccess);
-        }
-        if text == "amqp:decode-error" {
-            return Ok(AmqpCondition::DecodeError);
-        }
-        if text == "amqp:resource-limit-exceeded" {
-            return Ok(AmqpCondition::ResourceLimitExceeded);
-        }
-        if text == "amqp:not-allowed" {
-            return Ok(AmqpCondition::NotAllowed);
-        }
-        if text == "amqp:invalid-field" {
-            return Ok(AmqpCondition::InvalidField);
-        }
-        if text == "amqp:not-implemented" {
-            return Ok(AmqpCondition::NotImplemented);
-        }
-        if text == "amqp:resource-locked" {
-            return Ok(AmqpCondition::ResourceLocked);
-        }
-        if text == "amqp:precondition-failed" {
-            return Ok(AmqpCondition::PreconditionFailed);
-        }
-        if text == "amqp:resource-deleted" {
-            return Ok(AmqpCondition::ResourceDeleted);
-        }
-        if text == "amqp:illegal-state" {
-            return Ok(AmqpCondition::IllegalState);
-        }
-        if text == "amqp:frame-size-too-small" {
-            return Ok(AmqpCondition::FrameSizeTooSmall);
-        }
-        Err(GaveUp)
     }
 }
 
