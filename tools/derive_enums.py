@@ -15,6 +15,10 @@ SCALARS = {
     "Symbol": ("Symbol", "symbol", "symbol_text")}
 
 
+# with more texts than these, `from_text` selects the variant
+MOST_TESTS = 8
+
+
 def cases(arms, of="x", type_="_"):
     """A term by cases on a value of the enum."""
     return f"elim {of} as (λ _. {type_}) [ " + " | ".join(f"variant.{arm} ↦ {term}" for arm, term in arms) + " ]"
@@ -52,8 +56,21 @@ GAVE_UP = REFUSED.replace("D::Error::invalid_value()", "GaveUp")
 
 def of_text(t, indent, got, refused):
     """The statements that select the variant by a text."""
+    if len(t.variants) > MOST_TESTS:
+        return f"{indent}match {t.name}::from_text({got}) {{\n{indent}    Some(value) => Ok(value),\n{indent}    None => Err({refused}),\n{indent}}}\n"
     tests = "".join(f"{indent}if text == {v.value} {{\n{indent}    return Ok({t.name}::{v.name});\n{indent}}}\n" for v in t.variants)
     return f"{indent}let text = {got};\n{tests}{indent}Err({refused})\n"
+
+
+def from_text(t):
+    """The method that returns the value with a text, for an enum with so many that the facts on all of them hinder a search."""
+    if len(t.variants) <= MOST_TESTS:
+        return ""
+    value = cases([(v.name, f"codes {v.value}") for v in t.variants], type_="List ℕ")
+    tests = "".join(f"        if text == {v.value} {{\n            return Some({t.name}::{v.name});\n        }}\n" for v in t.variants)
+    return f"\n    /// Returns the value with this text, if there is one.\n    pub fn from_text(text: &str) -> Option<{t.name}>\n" \
+        f"        ensures some {{ IfSome result (λ x. text.now ≡ ({value})) }}\n" \
+        f"        ensures none {{ IfNone result ((x : {t.name}) → text.now ≡ ({value}) → ⊥) }}\n    {{\n{tests}        None\n    }}\n"
 
 
 def restricted(t):
@@ -67,9 +84,11 @@ def restricted(t):
         # the equation of a long text is a clause of its own
         said = value.replace("elim x", "elim self.now")
         rows = "".join(f"            {t.name}::{v.name} => {v.value},\n" for v in t.variants)
-        out.append(f"impl {t.name} {{\n{uses(said + ' ≡')}{variants_of(t)}\n    /// Returns the text of the value.\n"
+        more = "    ghost use Rattle.std.specs.Prelude.{IfSome, IfNone};\n" \
+            f"    ghost use Rattle.{t.module}.{t.name}.{{{t.name}}};\n" if from_text(t) else ""
+        out.append(f"impl {t.name} {{\n{uses(said + ' ≡')}{more}{variants_of(t)}\n    /// Returns the text of the value.\n"
                    f"    pub fn as_str(&self) -> &'static str\n        ensures {{ result.now ≡ ({said}) }}\n    {{\n"
-                   f"        match self {{\n{rows}        }}\n    }}\n}}\n")
+                   f"        match self {{\n{rows}        }}\n    }}\n{from_text(t)}}}\n")
         call = "Name(self.as_str())" if t.source == "Symbol" else "self.as_str()"
         body = f"        {call}.serialize(serializer)\n"
     else:

@@ -51,7 +51,7 @@ def names_file(table):
 
 PAGE = """# AMQP's own types
 
-The crate [amqp_types](src/lib.rt) has these types, from the crates below it, which `tools/types` writes from [types_table.txt](../../tools/types_table.txt). Each is written and read, after the code of its descriptor or after its name. `!` marks a mandatory field, `[]` one with several values, an `Option<Multiple<T>>`, and `=` the default, which the method `FIELD_or_default` returns for `None`. `AmqpCondition` is only written: compare a condition that was received with its `as_str`. `Unknown` keeps a value with another descriptor.
+The crate [amqp_types](src/lib.rt) has these types, from the crates below it, which `tools/types` writes from [types_table.txt](../../tools/types_table.txt). Each is written and read, after the code of its descriptor or after its name. `!` marks a mandatory field, `[]` one with several values, an `Option<Multiple<T>>`, and `=` the default, which the method `FIELD_or_default` returns for `None`. `Unknown` keeps a value with another descriptor.
 
 [`Message`](src/message/whole.rt) is read from and written as its sections, [`LazyMessage`](src/message/lazy.rt) without decoding the body; `sections` splits the bytes. [`frame`](src/frame.rt) has transport frames and protocol headers, `names` the names of types and fields by code.
 """

@@ -63,16 +63,12 @@ def struct(table, t):
     return out + f"pub struct {t.rust} {{\n{rows}}}\n"
 
 
-# The most choices of a type that is read too: of more, the search of the prover gives up.
-MAX_READ = 8
-
-
 def choice(table, t):
     values = [f'"{f.type}"' if t.source == "symbol" else f.type for f in t.fields]
     line = ", ".join(values)
     source = {"boolean": "bool", "ubyte": "u8", "uint": "u32", "symbol": "Symbol"}[t.source]
     rows = "".join(doc(f.comment, "    ") + f"    {variant(f)},\n" for f in t.fields)
-    return f'// amqp: encoding = "restricted", source = "{source}", values = [{line}]{"" if len(values) <= MAX_READ else ", write_only"}\n{derive(t)}pub enum {t.rust} {{\n{rows}}}\n'
+    return f'// amqp: encoding = "restricted", source = "{source}", values = [{line}]\n{derive(t)}pub enum {t.rust} {{\n{rows}}}\n'
 
 
 def variant(f):

@@ -4,7 +4,7 @@
 ///
 /// # Encoding
 /// A symbol that is one of 13.
-// amqp: encoding = "restricted", source = "Symbol", values = ["amqp:internal-error", "amqp:not-found", "amqp:unauthorized-access", "amqp:decode-error", "amqp:resource-limit-exceeded", "amqp:not-allowed", "amqp:invalid-field", "amqp:not-implemented", "amqp:resource-locked", "amqp:precondition-failed", "amqp:resource-deleted", "amqp:illegal-state", "amqp:frame-size-too-small"], write_only
+// amqp: encoding = "restricted", source = "Symbol", values = ["amqp:internal-error", "amqp:not-found", "amqp:unauthorized-access", "amqp:decode-error", "amqp:resource-limit-exceeded", "amqp:not-allowed", "amqp:invalid-field", "amqp:not-implemented", "amqp:resource-locked", "amqp:precondition-failed", "amqp:resource-deleted", "amqp:illegal-state", "amqp:frame-size-too-small"]
 #[derive(Debug, Clone, Copy, PartialEq, Eq)]
 pub enum AmqpCondition {
     /// An error of the peer's own.
@@ -109,6 +109,8 @@ use serde_amqp::derive::{
 
 impl AmqpCondition {
     ghost use Rattle.std.specs.Prelude.{◌≡◌, List, ℕ, codes};
+    ghost use Rattle.std.specs.Prelude.{IfSome, IfNone};
+    ghost use Rattle.amqp_common.specs.declared.conditions.AmqpCondition.{AmqpCondition};
     ghost use Rattle.amqp_common.specs.declared.conditions.AmqpCondition.TheVariants as variant;
 
     /// Returns the text of the value.
@@ -131,6 +133,53 @@ impl AmqpCondition {
             AmqpCondition::FrameSizeTooSmall => "amqp:frame-size-too-small",
         }
     }
+
+    /// Returns the value with this text, if there is one.
+    pub fn from_text(text: &str) -> Option<AmqpCondition>
+        ensures some { IfSome result (λ x. text.now ≡ (elim x as (λ _. List ℕ) [ variant.InternalError ↦ codes "amqp:internal-error" | variant.NotFound ↦ codes "amqp:not-found" | variant.UnauthorizedAccess ↦ codes "amqp:unauthorized-access" | variant.DecodeError ↦ codes "amqp:decode-error" | variant.ResourceLimitExceeded ↦ codes "amqp:resource-limit-exceeded" | variant.NotAllowed ↦ codes "amqp:not-allowed" | variant.InvalidField ↦ codes "amqp:invalid-field" | variant.NotImplemented ↦ codes "amqp:not-implemented" | variant.ResourceLocked ↦ codes "amqp:resource-locked" | variant.PreconditionFailed ↦ codes "amqp:precondition-failed" | variant.ResourceDeleted ↦ codes "amqp:resource-deleted" | variant.IllegalState ↦ codes "amqp:illegal-state" | variant.FrameSizeTooSmall ↦ codes "amqp:frame-size-too-small" ])) }
+        ensures none { IfNone result ((x : AmqpCondition) → text.now ≡ (elim x as (λ _. List ℕ) [ variant.InternalError ↦ codes "amqp:internal-error" | variant.NotFound ↦ codes "amqp:not-found" | variant.UnauthorizedAccess ↦ codes "amqp:unauthorized-access" | variant.DecodeError ↦ codes "amqp:decode-error" | variant.ResourceLimitExceeded ↦ codes "amqp:resource-limit-exceeded" | variant.NotAllowed ↦ codes "amqp:not-allowed" | variant.InvalidField ↦ codes "amqp:invalid-field" | variant.NotImplemented ↦ codes "amqp:not-implemented" | variant.ResourceLocked ↦ codes "amqp:resource-locked" | variant.PreconditionFailed ↦ codes "amqp:precondition-failed" | variant.ResourceDeleted ↦ codes "amqp:resource-deleted" | variant.IllegalState ↦ codes "amqp:illegal-state" | variant.FrameSizeTooSmall ↦ codes "amqp:frame-size-too-small" ]) → ⊥) }
+    {
+        if text == "amqp:internal-error" {
+            return Some(AmqpCondition::InternalError);
+        }
+        if text == "amqp:not-found" {
+            return Some(AmqpCondition::NotFound);
+        }
+        if text == "amqp:unauthorized-access" {
+            return Some(AmqpCondition::UnauthorizedAccess);
+        }
+        if text == "amqp:decode-error" {
+            return Some(AmqpCondition::DecodeError);
+        }
+        if text == "amqp:resource-limit-exceeded" {
+            return Some(AmqpCondition::ResourceLimitExceeded);
+        }
+        if text == "amqp:not-allowed" {
+            return Some(AmqpCondition::NotAllowed);
+        }
+        if text == "amqp:invalid-field" {
+            return Some(AmqpCondition::InvalidField);
+        }
+        if text == "amqp:not-implemented" {
+            return Some(AmqpCondition::NotImplemented);
+        }
+        if text == "amqp:resource-locked" {
+            return Some(AmqpCondition::ResourceLocked);
+        }
+        if text == "amqp:precondition-failed" {
+            return Some(AmqpCondition::PreconditionFailed);
+        }
+        if text == "amqp:resource-deleted" {
+            return Some(AmqpCondition::ResourceDeleted);
+        }
+        if text == "amqp:illegal-state" {
+            return Some(AmqpCondition::IllegalState);
+        }
+        if text == "amqp:frame-size-too-small" {
+            return Some(AmqpCondition::FrameSizeTooSmall);
+        }
+        None
+    }
 }
 
 impl Serialize for AmqpCondition {
@@ -143,6 +192,54 @@ impl Serialize for AmqpCondition {
     fn serialize<S: Serializer>(&self, serializer: &mut S) -> Result<S::Ok, S::Error> {
         Name(self.as_str()).serialize(serializer)
     }
+}
+
+impl Deserialize for AmqpCondition {
+    ghost use Rattle.std.specs.Prelude.{◌≡◌, List, ℕ, codes};
+    ghost use Rattle.serde_amqp.specs.Derive.{scalar, symbol, Always};
+    ghost use Rattle.amqp_common.specs.declared.conditions.AmqpCondition.TheVariants as variant;
+
+    ghost reads = { λ t x. t ≡ scalar (symbol (elim x as (λ _. List ℕ) [ variant.InternalError ↦ codes "amqp:internal-error" | variant.NotFound ↦ codes "amqp:not-found" | variant.UnauthorizedAccess ↦ codes "amqp:unauthorized-access" | variant.DecodeError ↦ codes "amqp:decode-error" | variant.ResourceLimitExceeded ↦ codes "amqp:resource-limit-exceeded" | variant.NotAllowed ↦ codes "amqp:not-allowed" | variant.InvalidField ↦ codes "amqp:invalid-field" | variant.NotImplemented ↦ codes "amqp:not-implemented" | variant.ResourceLocked ↦ codes "amqp:resource-locked" | variant.PreconditionFailed ↦ codes "amqp:precondition-failed" | variant.ResourceDeleted ↦ codes "amqp:resource-deleted" | variant.IllegalState ↦ codes "amqp:illegal-state" | variant.FrameSizeTooSmall ↦ codes "amqp:frame-size-too-small" ])) };
+
+    ghost image = { λ x. scalar (symbol (elim x as (λ _. List ℕ) [ variant.InternalError ↦ codes "amqp:internal-error" | variant.NotFound ↦ codes "amqp:not-found" | variant.UnauthorizedAccess ↦ codes "amqp:unauthorized-access" | variant.DecodeError ↦ codes "amqp:decode-error" | variant.ResourceLimitExceeded ↦ codes "amqp:resource-limit-exceeded" | variant.NotAllowed ↦ codes "amqp:not-allowed" | variant.InvalidField ↦ codes "amqp:invalid-field" | variant.NotImplemented ↦ codes "amqp:not-implemented" | variant.ResourceLocked ↦ codes "amqp:resource-locked" | variant.PreconditionFailed ↦ codes "amqp:precondition-failed" | variant.ResourceDeleted ↦ codes "amqp:resource-deleted" | variant.IllegalState ↦ codes "amqp:illegal-state" | variant.FrameSizeTooSmall ↦ codes "amqp:frame-size-too-small" ])) };
+
+    ghost restorable = { Always };
+
+    ghost same = { λ x y. x ≡ y };
+
+    fn deserialize<D: Deserializer>(
+        _alloc: Global,
+        deserializer: D,
+    ) -> Result<AmqpCondition, D::Error> {
+        match deserializer.open() {
+            Content::Symbol(text) => {
+                match AmqpCondition::from_text(text.as_inner().as_str()) {
+                    Some(value) => Ok(value),
+                    None => Err(D::Error::invalid_value()),
+                }
+            }
+            _ => Err(D::Error::invalid_value()),
+        }
+    }
+
+    fn read_encoded(
+        alloc: Global,
+        code: u8,
+        input: &mut &[u8],
+        depth: u16,
+    ) -> Result<AmqpCondition, GaveUp> {
+        let text = <serde_amqp::primitives::Symbol as Deserialize>::read_encoded(
+            alloc, code, input, depth,
+        )?;
+        match AmqpCondition::from_text(text.as_inner().as_str()) {
+            Some(value) => Ok(value),
+            None => Err(GaveUp),
+        }
+    }
+}
+
+impl RoundTrip for AmqpCondition {
+    fn law() {}
 }
 
 impl ConnectionCondition {

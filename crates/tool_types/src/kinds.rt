@@ -1,7 +1,7 @@
 //! Calls by the name of a type.
 
 use amqp_types::{
-    Accepted, Address, AmqpError, AmqpSequence, AmqpValue, AnnotationKey, AnyTarget,
+    Accepted, Address, AmqpCondition, AmqpError, AmqpSequence, AmqpValue, AnnotationKey, AnyTarget,
     ApplicationProperties, Attach, Begin, Close, ConnectionCondition, Coordinator, Data, Declare,
     Declared, DeleteOnClose, DeleteOnNoLinks, DeleteOnNoLinksOrMessages, DeleteOnNoMessages,
     DeliveryAnnotations, DeliveryState, Detach, Discharge, Disposition, DistributionMode, End,
@@ -21,6 +21,7 @@ pub fn written_again(alloc: Global, kind: &str, bytes: &[u8]) -> Result<Vec<u8>,
     match kind {
         "Accepted" => back::<Accepted>(alloc, bytes),
         "Address" => back::<Address>(alloc, bytes),
+        "AmqpCondition" => back::<AmqpCondition>(alloc, bytes),
         "AmqpError" => back::<AmqpError>(alloc, bytes),
         "AmqpSequence" => back::<AmqpSequence>(alloc, bytes),
         "AmqpValue" => back::<AmqpValue>(alloc, bytes),
