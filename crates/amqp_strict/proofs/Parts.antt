@@ -1,5 +1,5 @@
 -- Arrays without elements in parts, and in the compound that they make.
-use Rattle.std.proofs.Common.{◌≡◌, ℕ, List, [], ◌∷◌, ◌++◌, Option, Some, None, Result, Ok, Err, Bool, true, false, ◌||◌, is_some, not, refl, ap, sym, ◌∙◌, subst}
+use Rattle.std.proofs.Common.{◌≡◌, ℕ, List, [], ◌∷◌, ◌++◌, Option, Some, None, Ok, Err, Bool, true, false, ◌||◌, is_some, not, refl, ap, sym, ◌∙◌, subst}
 use Rattle.amqp_ser.specs.Tree.{Tree, Trees, Pairs, list, map, variant, no_trees, more}
 use Rattle.amqp_ser.specs.Compounds.{all_trees, prepend, prepend_pair, in_pairs, as_kind, as_map, as_variant, only, tree_of_parts, paired, complete}
 use Rattle.amqp_ser.specs.declared.kind.CompoundKind.{CompoundKind}
@@ -9,7 +9,7 @@ use Rattle.amqp_ser.proofs.Joins.{join, joined}
 use Rattle.amqp_ser.proofs.Last.{last_off, paired-last}
 use Rattle.amqp_ser.proofs.Pairing.{paired-even, pairing}
 use Rattle.amqp_strict.specs.EmptyArrays.{has_empty_array, any_has, any_pair_has, Finds}
-use Rattle.amqp_strict.specs.Finder.{FindsInParts, Holds, fresh, for_part, is_empty_array, meant_parts}
+use Rattle.amqp_strict.specs.Finder.{FindsInParts, Holds, fresh, is_empty_array, meant_parts}
 use Rattle.amqp_strict.specs.Pending.{fits, meant}
 use Rattle.amqp_strict.proofs.Meanings.{never, as_it_is, single_meant, barred, none_of_parts, trees_more, for_next}
 use Rattle.amqp_strict.specs.declared.finder.Finder.{Finder}

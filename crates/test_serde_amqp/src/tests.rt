@@ -4,6 +4,7 @@
 mod building;
 mod conversions;
 mod cut_rows;
+mod encodings;
 mod errors;
 mod fields;
 mod flushes;

@@ -3,7 +3,8 @@
 use crate::again::Again;
 use crate::report::report;
 use crate::{
-    accessors, built, conversions, copies, derived_types, own_types, runs, serializer, written,
+    accessors, built, conversions, copies, derived_types, encodings, own_types, runs, serializer,
+    written,
 };
 use amqp_data::{Error, OrderedMap, Symbol, TransparentVec};
 use amqp_frame::{LazyValue, SliceReader};
@@ -31,6 +32,7 @@ pub fn all(rt: &(impl Print + AllocGlobal)) -> Result<(), Error> {
     report(rt, "conversions", conversions::all(alloc)?);
     report(rt, "maps and clones", copies::all(alloc)?);
     report(rt, "built values", built::all(alloc)?);
+    report(rt, "encodings", encodings::all(alloc)?);
     let own_types = own_types::all(alloc)? && derived_types::all(alloc)?;
     report(rt, "types of one's own", own_types);
     report(rt, "calls of a serializer", serializer::all(alloc)?);

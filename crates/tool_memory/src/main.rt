@@ -5,7 +5,7 @@
 //! 1, unless the failed call is repeated or the result is reached in another way: `from_slice` reads
 //! a type from an untyped value if its one pass fails. Any other result is visible as different
 //! output. The first argument selects one part: `calls`, `lengths`, `large`, `none`, whose calls do
-//! not allocate, or `inserted`, whose last calls do not.
+//! not allocate, `inserted`, whose last calls do not, or `kept`, whose calls after the first do not.
 //!
 //! The file `rows` has more calls that allocate: rows of the program `test_rows`, which
 //! `tools/memory` runs once for each of their allocations too. Those of `optional_rows` make calls
@@ -31,6 +31,7 @@
 //! | the same | `TryFromSerializable::try_from_serializable` |
 //! | maps and clones | `OrderedMap::with_capacity`, `OrderedMap::reserve`, `OrderedMap::extend`, `OrderedMap::lookup` |
 //! | built values | `BuildList::new`, `BuildList::finish`, `BuildMap::new`, `BuildMap::finish`, `IntoValue::into_value` |
+//! | encodings | `append`, `append_to`, `to_vec_strict`, `write_to`, `Encoder::new`, `Encoder::encode` |
 //! | rows of decode and decode_within | `decode_value`, `decode_value_limited`, `decode_value_to_depth` |
 //! | rows of read_within | `from_slice_limited`, `from_reader_limited` |
 //! | rows of decode and read | `MapBuilder::new`, `MapBuilder::with_capacity`, `MapBuilder::into_value` |
@@ -81,6 +82,7 @@ mod calls;
 mod conversions;
 mod copies;
 mod derived_types;
+mod encodings;
 mod inserted;
 mod large;
 mod lengths;
@@ -129,6 +131,9 @@ fn make(rt: &(impl Print + AllocGlobal), part: &[u8]) -> Result<(), Error> {
     }
     if part.is_empty() || part == b"inserted".as_slice() {
         inserted::all(rt)?;
+    }
+    if part.is_empty() || part == b"kept".as_slice() {
+        encodings::again(rt)?;
     }
     Ok(())
 }

@@ -5,6 +5,7 @@ use amqp_calendar::civil_from_days;
 use amqp_data::{SymbolRef, Timestamp};
 use amqp_frame::{frame_len, is_frame};
 use amqp_size::{serialized_size, width};
+use amqp_strict::has_empty_array;
 use amqp_value::Value;
 
 /// Makes each call once.
@@ -24,6 +25,9 @@ pub fn all(rt: &impl Print) {
         && is_frame(b"\x00\xa1\x01a\x45")
         && !is_frame(b"\x40\x40");
     report(rt, "lengths of frames", frames);
+    let empty = has_empty_array(&(1u8, "a")) == Ok(false)
+        && has_empty_array(&(1u8, Some(SymbolRef::from("k")))) == Ok(false);
+    report(rt, "empty arrays", empty);
     let codes = Value::Bool(true).format_code() == 0x56 && Value::Null.format_code() == 0x40;
     report(rt, "format codes", codes);
     report(rt, "dates", civil_from_days(0) == (1970, 1, 1));
