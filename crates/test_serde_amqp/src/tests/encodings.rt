@@ -20,6 +20,11 @@ fn mixed(rt: &HostRuntime) -> Result<Value, Error> {
     Ok(Value::Array(Array::from(vec![in rt.alloc(); Value::Bool(true), Value::Null]?)))
 }
 
+// The value that is encoded as `LIST`.
+fn pair(rt: &HostRuntime) -> Result<Value, Error> {
+    list![in rt.alloc(); "a", "bc"]
+}
+
 fn empty(rt: &HostRuntime) -> Value {
     Value::Array(Array::from(Vec::new(rt.alloc())))
 }
@@ -28,7 +33,7 @@ fn empty(rt: &HostRuntime) -> Value {
 fn appended(rt: &HostRuntime) -> Result<bool, Error> {
     let mut bytes = Vec::new(rt.alloc());
     append_to(rt.alloc(), &mut bytes, &Value::Null)?;
-    append_to(rt.alloc(), &mut bytes, &("a", "bc"))?;
+    append_to(rt.alloc(), &mut bytes, &pair(rt)?)?;
     let refused = append_to(rt.alloc(), &mut bytes, &mixed(rt)?);
     append_to(rt.alloc(), &mut bytes, &true)?;
     let right = bytes.starts_with(b"\x40\xc0") && bytes.ends_with(b"bc\x41") && bytes.len() == 12;
@@ -38,10 +43,11 @@ fn appended(rt: &HostRuntime) -> Result<bool, Error> {
 // An encoder returns each encoding, also after an error and after a longer one.
 fn kept(rt: &HostRuntime) -> Result<bool, Error> {
     let mut encoder = Encoder::new(rt.alloc());
-    let first = encoder.encode(&("a", "bc"))? == LIST;
+    let value = pair(rt)?;
+    let first = encoder.encode(&value)? == LIST;
     let refused = encoder.encode(&mixed(rt)?).is_err();
     let scalar = encoder.encode(&true)? == b"\x41".as_slice();
-    let again = encoder.encode(&("a", "bc"))? == LIST;
+    let again = encoder.encode(&value)? == LIST;
     Ok(holds(rt, "an encoder", first && refused && scalar && again))
 }
 
@@ -49,10 +55,10 @@ fn kept(rt: &HostRuntime) -> Result<bool, Error> {
 fn written(rt: &HostRuntime) -> Result<bool, Error> {
     let mut writer = VecWriter::new(rt.alloc());
     let refused = write_to(rt.alloc(), &mut writer, &mixed(rt)?);
-    write_to(rt.alloc(), &mut writer, &("a", "bc"))?;
+    write_to(rt.alloc(), &mut writer, &pair(rt)?)?;
     let mut bytes = Vec::new(rt.alloc());
     let mut failing = IoWriter::new(ByteWriter::failing(&mut bytes, 4, Fault::Fails));
-    let failed = write_to(rt.alloc(), &mut failing, &("a", "bc"));
+    let failed = write_to(rt.alloc(), &mut failing, &pair(rt)?);
     drop(failing);
     Ok(
         is(rt, "a mixed array", refused, "Err(InvalidValue)")
