@@ -4,6 +4,7 @@
 //! that fails prints its name and the result.
 
 mod bench;
+mod composites;
 mod derived;
 mod reading;
 

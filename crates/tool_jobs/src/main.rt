@@ -30,7 +30,6 @@ mod sections;
 mod send;
 mod show;
 mod texts;
-mod written;
 
 use digest::Digest;
 use random::Random;

@@ -2,7 +2,7 @@
 
 use crate::random::Random;
 use crate::texts::{body, body_len, name, symbol, uuid};
-use crate::written::{
+use example_composites::{
     Accepted, Address, AnnotationKey, ApplicationProperties, Data, DeliveryState, Disposition,
     Flow, Header, MessageAnnotations, MessageId, Outcome, Properties, Role, SimpleValue, Transfer,
 };

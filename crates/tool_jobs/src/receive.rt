@@ -7,7 +7,7 @@ use crate::messages::Message;
 use crate::places::{LONG_MARKER, MARKER, Marked};
 use crate::random::Random;
 use crate::sections::{Header, Properties};
-use crate::written::{AnnotationKey, SimpleValue};
+use example_composites::{AnnotationKey, SimpleValue};
 use serde_amqp::decode::decode_value;
 use serde_amqp::lazy::LazyValue;
 use serde_amqp::primitives::OrderedMap;
