@@ -22,9 +22,9 @@ pub struct Counter {
 
 // amqp: the impls below are written by tools/derive from the annotations above
 use serde_amqp::derive::{
-    Composite, Deserialize, DeserializeSeed, Deserializer, FieldSeeds, FieldValues, GaveUp, Global,
-    ListOf, ListSeed, Record, Required, Serialize, SerializeCompounds, Serializer, fields, named,
-    read, read_composite_type, read_composite_type_encoded, read_parts_encoded,
+    Composite, Deserialize, DeserializeSeed, Deserializer, FieldSeeds, FieldValues, FromParts,
+    GaveUp, Global, ListOf, ListSeed, Record, Required, Serialize, SerializeCompounds, Serializer,
+    build, build_encoded, fields, named, read_composite_type, read_composite_type_encoded,
 };
 
 impl Serialize for Gauge {
@@ -58,6 +58,23 @@ impl Record for Gauge {
     ghost parts = { λ x. x.gauge_number ▸ x.is_open ▸ tt };
 }
 
+impl FromParts for Gauge {
+    fn from_parts(parts: <GaugeFields as FieldSeeds>::Values) -> Gauge {
+        let FieldValues {
+            value: gauge_number,
+            rest,
+        } = parts;
+        let FieldValues {
+            value: is_open,
+            rest: (),
+        } = rest;
+        Gauge {
+            gauge_number,
+            is_open,
+        }
+    }
+}
+
 impl Composite for Gauge {
     ghost use Rattle.std.specs.Prelude.{codes};
     ghost use Rattle.serde_amqp.specs.Derive.{OnFields, ReadsRequired, NoMoreFields};
@@ -86,22 +103,11 @@ impl Composite for Gauge {
     }
 
     fn read_body<D: Deserializer>(alloc: Global, deserializer: D) -> Result<Gauge, D::Error> {
-        let FieldValues {
-            value: gauge_number,
-            rest,
-        } = read::<Gauge, D, _>(
+        build::<Gauge, D, _>(
             alloc,
             deserializer,
             ListSeed(named! { "gauge-number", "is-open" }),
-        )?;
-        let FieldValues {
-            value: is_open,
-            rest: (),
-        } = rest;
-        Ok(Gauge {
-            gauge_number,
-            is_open,
-        })
+        )
     }
 
     fn read_body_encoded(
@@ -110,19 +116,13 @@ impl Composite for Gauge {
         input: &mut &[u8],
         depth: u16,
     ) -> Result<Gauge, GaveUp> {
-        let seed = ListSeed(named! { "gauge-number", "is-open" });
-        let FieldValues {
-            value: gauge_number,
-            rest,
-        } = read_parts_encoded::<Gauge, _>(alloc, code, input, depth, seed)?;
-        let FieldValues {
-            value: is_open,
-            rest: (),
-        } = rest;
-        Ok(Gauge {
-            gauge_number,
-            is_open,
-        })
+        build_encoded::<Gauge, _>(
+            alloc,
+            code,
+            input,
+            depth,
+            ListSeed(named! { "gauge-number", "is-open" }),
+        )
     }
 }
 
@@ -218,6 +218,16 @@ impl Record for Counter {
     ghost parts = { λ x. x.count ▸ tt };
 }
 
+impl FromParts for Counter {
+    fn from_parts(parts: <CounterFields as FieldSeeds>::Values) -> Counter {
+        let FieldValues {
+            value: count,
+            rest: (),
+        } = parts;
+        Counter { count }
+    }
+}
+
 impl Deserialize for Counter {
     ghost use Rattle.std.specs.Prelude.{codes};
     ghost use Rattle.serde_amqp.specs.Derive.{OnFields, ReadsRequired, NoMoreFields};
@@ -233,11 +243,7 @@ impl Deserialize for Counter {
     ghost same = { λ x y. ⟦<ListSeed<CounterFields> as DeserializeSeed>⟧.same (⟦<Counter as Record>⟧.parts x) (⟦<Counter as Record>⟧.parts y) };
 
     fn deserialize<D: Deserializer>(alloc: Global, deserializer: D) -> Result<Counter, D::Error> {
-        let FieldValues {
-            value: count,
-            rest: (),
-        } = read::<Counter, D, _>(alloc, deserializer, ListSeed(named! { "count" }))?;
-        Ok(Counter { count })
+        build::<Counter, D, _>(alloc, deserializer, ListSeed(named! { "count" }))
     }
 
     fn read_encoded(
@@ -246,12 +252,7 @@ impl Deserialize for Counter {
         input: &mut &[u8],
         depth: u16,
     ) -> Result<Counter, GaveUp> {
-        let seed = ListSeed(named! { "count" });
-        let FieldValues {
-            value: count,
-            rest: (),
-        } = read_parts_encoded::<Counter, _>(alloc, code, input, depth, seed)?;
-        Ok(Counter { count })
+        build_encoded::<Counter, _>(alloc, code, input, depth, ListSeed(named! { "count" }))
     }
 }
 // amqp: end of the impls
