@@ -7,6 +7,8 @@ from subprocess import DEVNULL, PIPE, run
 
 ROOT = Path(__file__).resolve().parent.parent
 TOP = "serde_amqp"
+# the libraries that can be copied are these and those below them
+TOPS = (TOP, "amqp_jiff")
 PARTS = {"src": ".rt", "specs": ".antt", "proofs": ".antt"}
 OWN = "fimoruke"
 LIST = f"{OWN}/COPIED"
@@ -89,7 +91,7 @@ def commit_of(root, names):
 def offered(root, names):
     """Returns what a copy of these libraries has, and for each of its files the file of this repository."""
     lines, _ = lines_of(root / "crates.txt")
-    libraries = below([TOP], lines)
+    libraries = below(TOPS, lines)
     unknown = [it for it in names if it not in libraries]
     if unknown:
         raise Refused(f"no library has the name {unknown[0]}; the libraries: {' '.join(libraries)}")
@@ -166,7 +168,7 @@ def vendor(root, dest, names):
     if not dest.is_dir() or (dest / "crates").resolve() == (root / "crates").resolve():
         raise Refused(f"{dest} is no folder of another repository")
     old = read_copied(dest)
-    known = below([TOP], lines_of(root / "crates.txt")[0])
+    known = below(TOPS, lines_of(root / "crates.txt")[0])
     new, files = offered(root, list(dict.fromkeys([*(it for it in old.roots if it in known), *names])) or [TOP])
     wrong = [*conflicts(dest, old, new)]
     if wrong:
