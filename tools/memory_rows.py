@@ -27,13 +27,13 @@ ROOT = Path(__file__).resolve().parent.parent / "crates"
 REFUSED = "<out of memory>"
 # Of the table of headers of each `Value` that is written, also inside a typed value: one for 4 headers, and one whenever it grows.
 HEADERS = 167
-# For each of the three calls of a row of `read` that read in one pass: 15 of the untyped value with arrays, a map and texts, 7 of the box
-# of boxes, 3 of the two texts, 2 each of three others with two blocks, and 1 each of nine.
-ONE_PASS = 3 * (15 + 7 + 3 + 3 * 2 + 9)
+# The requests that the calls of the rows of `read` make in one pass, and for the tables of headers of the lazy values that are read
+# and written on the way.
+ONE_PASS = 296
 # Two for the hashes of each of two maps that are decoded. For each of the four calls of the rows of `read`: two for the hashes of each
 # of two maps, decoded or made by `to_value`; two for an index; one for each of two lists. And 14 of tables of headers, and 5 in each of
-# three passes over the list of lists.
-OPTIONAL = 65
+# three passes over the list of lists. And the requests of the calls of the rows of `read` that read in one pass.
+OPTIONAL = 65 + 297
 
 
 def run(rows, **refused):

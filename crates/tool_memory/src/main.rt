@@ -44,6 +44,7 @@
 //! | the same | `read_map`, `read_described_map`, `read_named`, `read_fields_map`, `read_composite_map`, `read_named_map` |
 //! | the same | `read_composite_type`, `Composite::read_body`, `Name::serialize`, `Defaulted::read_elements`, `Defaulted::read_entries` |
 //! | the same | `read_alternatives`, `Alternatives::read_after`, `Either::read_after`, `Never::read_after` |
+//! | the same | `build`, `build_composite`, `build_named`, `build_fields_map`, `build_composite_map`, `build_named_map`, `build_encoded`, `build_composite_encoded`, `build_named_encoded` |
 //! | the same | `read_composite_type_encoded`, `read_named_encoded`, `Composite::read_body_encoded`, `Defaulted::read_fields` |
 //! | the same | `read_alternatives_encoded`, `Alternatives::read_after_encoded`, `Either::read_after_encoded` |
 //! | the same | `FieldSeeds::read_elements`, `Required::read_elements`, `Optional::read_elements`, `Elements::new` |
