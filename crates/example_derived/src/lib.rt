@@ -6,14 +6,18 @@
 
 mod catalogue;
 mod choices;
+mod failure;
 mod item;
 mod limits;
 mod outcome;
 mod report;
+mod restricted;
 
 pub use catalogue::{Contact, Product, Shop};
-pub use choices::{Address, DeliveryNumber, Durability, Expiry, Role, Shape, Tag};
+pub use choices::{Address, DeliveryNumber, Shape, Tag};
+pub use failure::{Failure, Rejected};
 pub use item::Item;
 pub use limits::Limits;
-pub use outcome::{Accepted, Failure, Modified, Outcome, Rejected};
+pub use outcome::{Accepted, Modified, Outcome};
 pub use report::{Position, Report};
+pub use restricted::{Durability, Expiry, Role, Unit};
