@@ -5,6 +5,7 @@ pub mod Reads
 pub mod Fields
 pub mod Present
 pub mod Answers
+pub mod Errors
 pub mod ContentTree
 pub mod Kinds
 pub mod Enums
