@@ -6,6 +6,7 @@ pub mod Reads
 pub mod Fields
 pub mod Present
 pub mod Answers
+pub mod Errors
 pub mod ContentTree
 pub mod Kinds
 pub mod Enums

@@ -2,6 +2,7 @@
 
 ghost use Rattle.std.specs.Prelude.{◌≡◌};
 ghost use Rattle.amqp_data.specs.declared.error.Error.TheVariants as error;
+ghost use Rattle.amqp_de.specs.Errors.{ErrorKind, out_of_memory, invalid_value, too_long, message, IsError};
 
 use amqp_data::Error;
 
@@ -9,17 +10,22 @@ use amqp_data::Error;
 ///
 /// # Implementer notes
 /// Required functions: `out_of_memory`, `invalid_value`, `too_long` and `custom`.
-/// `is_out_of_memory` must hold for the result of `out_of_memory` and for none of the others.
+/// `is_out_of_memory` must hold for the result of `out_of_memory` and for none of the others. `is`
+/// tells the kinds of errors apart in the contracts of reading, and may be left out.
 pub trait DeserializeError: Sized + Drop {
     /// Whether the error is out of memory.
     ghost is_out_of_memory: { Self → Type 0 };
+
+    /// Whether the error is one of this kind. The default does not say.
+    ghost is: { ErrorKind → Self → Type 0 } = { λ _ _. Unit {0} };
 
     /// Returns the error for a failed allocation.
     ///
     /// # Example
     /// For `Error`, returns `OutOfMemory`.
     fn out_of_memory() -> Self
-        ensures { is_out_of_memory result };
+        ensures memory { is_out_of_memory result }
+        ensures kind { is out_of_memory result };
 
     /// Returns the error for an invalid value, such as a value of another kind than the one that is
     /// read.
@@ -27,22 +33,30 @@ pub trait DeserializeError: Sized + Drop {
     /// # Example
     /// For `Error`, returns `InvalidValue`.
     fn invalid_value() -> Self
-        ensures { ¬ (is_out_of_memory result) };
+        ensures memory { ¬ (is_out_of_memory result) }
+        ensures kind { is invalid_value result };
 
     /// Returns the error for a value that is too long to be encoded.
+    ///
+    /// # Example
+    /// For `Error`, returns `TooLong`.
     fn too_long() -> Self
-        ensures { ¬ (is_out_of_memory result) };
+        ensures memory { ¬ (is_out_of_memory result) }
+        ensures kind { is too_long result };
 
     /// Returns an error with a message.
     ///
     /// # Example
     /// For `Error`, returns `Message(words)`.
     fn custom(words: &'static str) -> Self
-        ensures { ¬ (is_out_of_memory result) };
+        ensures memory { ¬ (is_out_of_memory result) }
+        ensures kind { is (message words.now) result };
 }
 
 impl DeserializeError for Error {
     ghost is_out_of_memory = { λ e. e ≡ error.OutOfMemory };
+
+    ghost is = { IsError };
 
     fn out_of_memory() -> Error {
         Error::OutOfMemory

@@ -1,6 +1,7 @@
 //! The events that are reported to a visitor.
 
-ghost use Rattle.std.specs.Prelude.{◌⊎◌, IsTrue};
+ghost use Rattle.std.specs.Prelude.{◌⊎◌, IsTrue, if◌then◌else◌};
+ghost use Rattle.amqp_de.specs.Errors.{invalid_value, out_of_memory};
 
 use crate::deserialize_error::DeserializeError;
 use amqp_data::{ByteBuf, F32Bits, F64Bits};
@@ -66,7 +67,8 @@ pub enum Plain {
 /// Returns the error of a visit that is not implemented: `DeserializeError::invalid_value` if
 /// `is_refused` is `true`, and `DeserializeError::out_of_memory` otherwise.
 pub fn unwritten<E: DeserializeError>(is_refused: bool) -> E
-    ensures { IsTrue is_refused ⊎ E.is_out_of_memory result }
+    ensures memory { IsTrue is_refused ⊎ E.is_out_of_memory result }
+    ensures kind { E.is (if is_refused then invalid_value else out_of_memory) result }
 {
     if is_refused {
         E::invalid_value()

@@ -3,6 +3,7 @@ pub mod TextLemmas
 pub mod DescriptorLemmas
 pub mod Steps
 pub mod Counts
+pub mod FaultLemmas
 pub mod Finds
 pub mod ScalarFramed
 pub mod Means
@@ -22,3 +23,4 @@ pub mod Framed
 pub mod ScalarBytes
 pub mod Encodes
 pub mod Worked
+pub mod FaultRows

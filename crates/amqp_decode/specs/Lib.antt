@@ -6,6 +6,7 @@ pub mod Scalars
 pub mod Spells
 pub mod Depth
 pub mod WithoutBytes
+pub mod Faults
 -- Definitions that contracts of reading without an untyped value use, and contracts of private
 -- functions, with those eight, and that WithoutBytes rests on.
 pub mod Parsed

@@ -6,6 +6,7 @@ ghost use Rattle.amqp_ser.specs.Tree.{Tree};
 ghost use Rattle.amqp_value.specs.TreeOf.{tree_of};
 ghost use Rattle.amqp_decode.specs.Spells.{Spells};
 ghost use Rattle.amqp_decode.specs.WithoutBytes.{IsExceeded, IsWithin, elements_without_bytes};
+ghost use Rattle.amqp_decode.specs.Faults.{DecodeFails, FailsBy, decode_fault};
 
 use crate::read::read_encoded_value;
 use amqp_data::Error;
@@ -25,9 +26,10 @@ use std::alloc::Global;
 /// is described (section 1.2) is not accepted.
 ///
 /// # Errors
-/// Returns `InvalidFormatCode` if a byte is not a format code where one is required. Returns
-/// `UnexpectedEof` if the bytes or a payload end too early. Returns `InvalidValue` if bytes are
-/// left over, and for every other invalid input. Returns `OutOfMemory` if an allocation fails.
+/// Returns the error of the first fault, in the order of the bytes. Returns `InvalidFormatCode` if a
+/// byte is not a format code where one is required. Returns `UnexpectedEof` if the bytes or a
+/// payload end too early. Returns `InvalidValue` if bytes are left over, and for every other invalid
+/// input. Returns `OutOfMemory` if an allocation fails.
 ///
 /// # Memory
 /// Allocates from `alloc`. A list of at most 64 elements reserves memory for all of them before the
@@ -43,6 +45,7 @@ use std::alloc::Global;
 pub fn decode_value(alloc: Global, bytes: &[u8]) -> Result<Value, Error>
     ensures ok { IfOk result (λ v. Spells 256 bytes.now (tree_of v)) }
     ensures err { IfErr result (λ e. ¬ (e ≡ OutOfMemory) → (t : Tree) → ¬ Spells 256 bytes.now t) }
+    ensures fault { IfErr result (DecodeFails 256 bytes.now) }
 {
     decode_value_to_depth(alloc, bytes, None, 256)
 }
@@ -70,6 +73,7 @@ pub fn decode_value_limited(alloc: Global, bytes: &[u8], elements: u32) -> Resul
         elements < elements_without_bytes 256 bytes.now) }
     ensures err { IfErr result (λ e. ¬ (e ≡ OutOfMemory) → ¬ (e ≡ TooLong) →
         (t : Tree) → ¬ Spells 256 bytes.now t) }
+    ensures fault { FailsBy (decode_fault 256 bytes.now) result }
 {
     decode_value_to_depth(alloc, bytes, Some(elements), 256)
 }
@@ -99,6 +103,7 @@ pub fn decode_value_to_depth(
         IsExceeded elements (elements_without_bytes depth bytes.now)) }
     ensures err { IfErr result (λ e. ¬ (e ≡ OutOfMemory) → ¬ (e ≡ TooLong) →
         (t : Tree) → ¬ Spells depth bytes.now t) }
+    ensures fault { FailsBy (decode_fault depth bytes.now) result }
 {
     let mut rest = bytes;
     let mut limit = elements;

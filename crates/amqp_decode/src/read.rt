@@ -7,6 +7,7 @@ ghost use Rattle.amqp_value.specs.declared.value.Value.{Value};
 ghost use Rattle.amqp_decode.specs.Scalars.{and_then};
 ghost use Rattle.amqp_decode.specs.WithoutBytes.{Spends, content_around, content_without_bytes, elements_without_bytes, frame_around, in_array, in_payload, sum_of};
 ghost use Rattle.amqp_decode.specs.Parsed.{all, gather, parse, parse_content, payload_in, content_of, frame_in, parse_list, parse_map, parse_array};
+ghost use Rattle.amqp_decode.specs.Faults.{FailsBy, content_fault, fault_around, fault_in, fault_in_item, fault_of_array, fault_of_map, fault_of_payload, fault_of_values};
 
 use crate::fixed::read_fixed;
 use crate::limit::spend_items;
@@ -47,6 +48,7 @@ pub fn read_encoded_value(
     ensures err { IfErr result (λ e. ¬ (e ≡ OutOfMemory) → ¬ (e ≡ TooLong) →
         parse depth bytes.old.now ≡ None) }
     ensures limit { Spends result limit.old limit.new (elements_without_bytes depth bytes.old.now) }
+    ensures fault { FailsBy (fault_in depth bytes.old.now) result }
 {
     read_value(alloc, bytes, depth, limit, spare)
 }
@@ -65,6 +67,7 @@ fn read_value(
     ensures err { IfErr result (λ e. ¬ (e ≡ OutOfMemory) → ¬ (e ≡ TooLong) →
         parse depth bytes.old.now ≡ None) }
     ensures limit { Spends result limit.old limit.new (elements_without_bytes depth bytes.old.now) }
+    ensures fault { FailsBy (fault_in depth bytes.old.now) result }
 {
     if depth == 0 {
         return Err(Error::InvalidValue);
@@ -99,6 +102,7 @@ pub fn read_after_code(
     ensures err { IfErr result (λ e. ¬ (e ≡ OutOfMemory) → ¬ (e ≡ TooLong) →
         frame_in (parse depth) (parse_content depth) (code ∷ bytes.old.now) ≡ None) }
     ensures limit { Spends result limit.old limit.new (frame_around depth (code ∷ bytes.old.now)) }
+    ensures fault { FailsBy (fault_around depth (code ∷ bytes.old.now)) result }
 {
     if code == 0 {
         return read_described(alloc, bytes, depth, limit, spare);
@@ -131,6 +135,7 @@ fn read_described(
     ensures err { IfErr result (λ e. ¬ (e ≡ OutOfMemory) → ¬ (e ≡ TooLong) →
         frame_in (parse depth) (parse_content depth) (0 ∷ bytes.old.now) ≡ None) }
     ensures limit { Spends result limit.old limit.new (frame_around depth (0 ∷ bytes.old.now)) }
+    ensures fault { FailsBy (fault_around depth (0 ∷ bytes.old.now)) result }
 {
     let (descriptor, rest) = read_descriptor(alloc, bytes)?;
     *bytes = rest;
@@ -158,6 +163,7 @@ fn read_named(
         payload_in (content_of (parse depth) (parse_content depth)) code bytes.old.now ≡ None) }
     ensures limit { Spends result limit.old limit.new
         (in_payload (content_around depth) code bytes.old.now) }
+    ensures fault { FailsBy (fault_of_payload (content_fault depth) code bytes.old.now) result }
 {
     let (content, rest) = read_payload(code, bytes)?;
     *bytes = rest;
@@ -180,6 +186,7 @@ fn read_content(
     ensures err { IfErr result (λ e. ¬ (e ≡ OutOfMemory) → ¬ (e ≡ TooLong) →
         content_of (parse depth) (parse_content depth) code content.now ≡ None) }
     ensures limit { Spends result limit.old limit.new (content_around depth code content.now) }
+    ensures fault { FailsBy (content_fault depth code content.now) result }
 {
     match payload_shape(code) {
         PayloadShape::Described => Err(Error::InvalidValue),
@@ -216,6 +223,7 @@ fn read_item(
         payload_in (parse_content depth) code bytes.old.now ≡ None) }
     ensures limit { Spends result limit.old limit.new
         (in_payload (content_without_bytes depth) code bytes.old.now) }
+    ensures fault { FailsBy (fault_in_item depth code bytes.old.now) result }
 {
     if depth == 0 {
         return Err(Error::InvalidValue);
@@ -241,6 +249,7 @@ fn read_list(
         parse_list (parse depth) (count, body.now) ≡ None) }
     ensures limit { Spends result limit.old limit.new
         (sum_of (elements_without_bytes depth) (parse depth) count body.now) }
+    ensures fault { FailsBy (fault_of_values (fault_in depth) (parse depth) count body.now) result }
 {
     if count == 0 && body.is_empty() {
         return Ok(Value::List(Vec::new(alloc)));
@@ -276,6 +285,7 @@ fn push_value(
     ensures err { IfErr result (λ e. ¬ (e ≡ OutOfMemory) → ¬ (e ≡ TooLong) →
         parse depth bytes.old.now ≡ None) }
     ensures limit { Spends result limit.old limit.new (elements_without_bytes depth bytes.old.now) }
+    ensures fault { FailsBy (fault_in depth bytes.old.now) result }
 {
     if depth == 0 {
         return Err(Error::InvalidValue);
@@ -311,6 +321,7 @@ fn read_entries(
         parse_map (parse depth) (count, body.now) ≡ None) }
     ensures limit { Spends result limit.old limit.new
         (sum_of (elements_without_bytes depth) (parse depth) count body.now) }
+    ensures fault { FailsBy (fault_of_map (fault_in depth) (parse depth) (count, body.now)) result }
 {
     if count % 2 != 0 {
         return Err(Error::InvalidValue);
@@ -347,6 +358,7 @@ fn read_array(
         parse_array (parse_content depth) (count, body.now) ≡ None) }
     ensures limit { Spends result limit.old limit.new
         (in_array (content_without_bytes depth) (parse_content depth) (count, body.now)) }
+    ensures fault { FailsBy (fault_of_array (fault_in_item depth) (parse_content depth) (count, body.now)) result }
 {
     match body.split_first() {
         None if count == 0 => Ok(Value::Array(Array::from(Vec::new(alloc)))),
@@ -380,6 +392,7 @@ fn read_items(
     ensures limit { Spends result limit.old limit.new
         (sum_of (in_payload (content_without_bytes depth) code)
         (payload_in (parse_content depth) code) count payloads.now) }
+    ensures fault { FailsBy (fault_of_values (fault_in_item depth code) (payload_in (parse_content depth) code) count payloads.now) result }
 {
     let mut items = Vec::new(alloc);
     let mut rest = payloads;

@@ -4,6 +4,7 @@ ghost use Rattle.std.specs.Prelude.{◌≡◌, ◌<◌, IfOk, map};
 ghost use Rattle.amqp_value.specs.TreeOf.{tree_of};
 ghost use Rattle.amqp_decode.specs.WithoutBytes.{content_without_bytes, in_payload, sum_of};
 ghost use Rattle.amqp_decode.specs.Parsed.{gather, payload_in, parse_content};
+ghost use Rattle.amqp_decode.specs.Faults.{fault_in_item, fault_of_values};
 
 use crate::fixed::read_fixed;
 use amqp_data::EncodingCodes;
@@ -35,6 +36,11 @@ pub fn read_run(
         sum_of (in_payload (content_without_bytes depth) code)
         (payload_in (parse_content depth) code) left bytes.new.now
         ≡ sum_of (in_payload (content_without_bytes depth) code)
+        (payload_in (parse_content depth) code) count bytes.old.now) }
+    ensures faults { IfOk result (λ left.
+        fault_of_values (fault_in_item depth code)
+        (payload_in (parse_content depth) code) left bytes.new.now
+        ≡ fault_of_values (fault_in_item depth code)
         (payload_in (parse_content depth) code) count bytes.old.now) }
 {
     if depth == 0 {
@@ -103,6 +109,11 @@ fn read_fixed_run(
         sum_of (in_payload (content_without_bytes depth) code)
         (payload_in (parse_content depth) code) left bytes.new.now
         ≡ sum_of (in_payload (content_without_bytes depth) code)
+        (payload_in (parse_content depth) code) count bytes.old.now) }
+    ensures faults { IfOk result (λ left.
+        fault_of_values (fault_in_item depth code)
+        (payload_in (parse_content depth) code) left bytes.new.now
+        ≡ fault_of_values (fault_in_item depth code)
         (payload_in (parse_content depth) code) count bytes.old.now) }
 {
     let byte = u8::from(code);

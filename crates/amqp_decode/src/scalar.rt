@@ -2,12 +2,13 @@
 
 ghost use Rattle.std.specs.Prelude.{◌≡◌, IfOk, IfErr, Some, None, true, false, string_bytes};
 ghost use Rattle.std.specs.Str.{is_utf8};
-ghost use Rattle.amqp_data.specs.declared.error.Error.TheVariants.{OutOfMemory, TooLong};
+ghost use Rattle.amqp_data.specs.declared.error.Error.TheVariants.{InvalidValue, OutOfMemory, TooLong};
 ghost use Rattle.amqp_ser.specs.Carried.{descriptor_content};
 ghost use Rattle.amqp_ser.specs.Tree.{scalar};
 ghost use Rattle.amqp_value.specs.TreeOf.{tree_of};
 ghost use Rattle.amqp_decode.specs.Scalars.{and_then, single, exact, truth, character, scalar_in, scalar_tree};
 ghost use Rattle.amqp_decode.specs.Parsed.{tree_descriptor, descriptor_at};
+ghost use Rattle.amqp_decode.specs.Faults.{FailsBy, fault_of_descriptor};
 
 use crate::payload::read_payload;
 use crate::payload_shape::primitive_code;
@@ -24,10 +25,11 @@ fn byte_of(content: &[u8]) -> Result<u8, Error>
     ensures ok { IfOk result (λ b. single content.now ≡ Some b) }
     ensures err { IfErr result (λ e. single content.now ≡ None) }
     ensures kind { IfErr result (λ e. ¬ (e ≡ TooLong)) }
+    ensures fault { FailsBy InvalidValue result }
 {
     match content {
         [byte] => Ok(*byte),
-        _ => Err(Error::UnexpectedEof),
+        _ => Err(Error::InvalidValue),
     }
 }
 
@@ -37,10 +39,11 @@ fn bytes_of<const N: usize>(content: &[u8]) -> Result<[u8; N], Error>
     ensures ok { IfOk result (λ b. exact N content.now ≡ Some b) }
     ensures err { IfErr result (λ e. exact N content.now ≡ None) }
     ensures kind { IfErr result (λ e. ¬ (e ≡ TooLong)) }
+    ensures fault { FailsBy InvalidValue result }
 {
     match <[u8; N]>::try_from(content) {
         Ok(bytes) => Ok(bytes),
-        Err(_) => Err(Error::UnexpectedEof),
+        Err(_other_length) => Err(Error::InvalidValue),
     }
 }
 
@@ -50,6 +53,7 @@ fn text_of(alloc: Global, content: &[u8]) -> Result<String, Error>
     ensures valid { IfOk result (λ s. is_utf8 content.now ≡ true) }
     ensures err { IfErr result (λ e. ¬ (e ≡ OutOfMemory) → is_utf8 content.now ≡ false) }
     ensures kind { IfErr result (λ e. ¬ (e ≡ TooLong)) }
+    ensures fault { FailsBy InvalidValue result }
 {
     match std::str::from_utf8(content) {
         Ok(text) => Ok(String::from_str(alloc, text)?),
@@ -73,6 +77,7 @@ fn truth_of(byte: u8) -> Result<Value, Error>
     ensures ok { IfOk result (λ v. and_then (truth byte) scalar_tree ≡ Some (tree_of v)) }
     ensures err { IfErr result (λ e. truth byte ≡ None) }
     ensures kind { IfErr result (λ e. ¬ (e ≡ TooLong)) }
+    ensures fault { FailsBy InvalidValue result }
 {
     match byte {
         0 => Ok(Value::Bool(false)),
@@ -87,6 +92,7 @@ fn character_of(number: u32) -> Result<Value, Error>
     ensures ok { IfOk result (λ v. and_then (character number) scalar_tree ≡ Some (tree_of v)) }
     ensures err { IfErr result (λ e. character number ≡ None) }
     ensures kind { IfErr result (λ e. ¬ (e ≡ TooLong)) }
+    ensures fault { FailsBy InvalidValue result }
 {
     match char::from_u32(number) {
         Some(character) => Ok(Value::Char(character)),
@@ -98,8 +104,8 @@ fn character_of(number: u32) -> Result<Value, Error>
 ///
 /// # Errors
 /// Returns `InvalidValue` if the code is not that of a scalar, and if the content is not a valid
-/// boolean, character or text. Returns `UnexpectedEof` if the content of a scalar of fixed width
-/// has another length. Returns `OutOfMemory` if an allocation fails.
+/// boolean, character or text, or has another length than a scalar of fixed width. Returns
+/// `OutOfMemory` if an allocation fails.
 #[tactic(auto, unfolding(crate::specs::Scalars::scalar_in))]
 #[inline(always)]
 pub fn read_scalar(alloc: Global, code: EncodingCodes, content: &[u8]) -> Result<Value, Error>
@@ -107,6 +113,7 @@ pub fn read_scalar(alloc: Global, code: EncodingCodes, content: &[u8]) -> Result
         and_then (scalar_in code content.now) scalar_tree ≡ Some (tree_of v)) }
     ensures err { IfErr result (λ e. ¬ (e ≡ OutOfMemory) → scalar_in code content.now ≡ None) }
     ensures kind { IfErr result (λ e. ¬ (e ≡ TooLong)) }
+    ensures fault { FailsBy InvalidValue result }
 {
     match code {
         EncodingCodes::Null => Ok(Value::Null),
@@ -169,6 +176,7 @@ fn into_descriptor(value: Value) -> Result<Descriptor, Error>
     ensures ok { IfOk result (λ d. tree_descriptor (tree_of value) ≡ Some (descriptor_content d)) }
     ensures err { IfErr result (λ e. tree_descriptor (tree_of value) ≡ None) }
     ensures kind { IfErr result (λ e. ¬ (e ≡ TooLong)) }
+    ensures fault { FailsBy InvalidValue result }
 {
     match value {
         Value::Ulong(number) => Ok(Descriptor::Code(number)),
@@ -188,6 +196,7 @@ pub fn read_descriptor(alloc: Global, bytes: &[u8]) -> Result<(Descriptor, &[u8]
         descriptor_at bytes.now ≡ Some (descriptor_content r.0, r.1.now)) }
     ensures err { IfErr result (λ e. ¬ (e ≡ OutOfMemory) → descriptor_at bytes.now ≡ None) }
     ensures kind { IfErr result (λ e. ¬ (e ≡ TooLong)) }
+    ensures fault { FailsBy (fault_of_descriptor bytes.now) result }
 {
     let Some((byte, bytes)) = bytes.split_first() else {
         return Err(Error::UnexpectedEof);

@@ -1,4 +1,4 @@
-use Rattle.std.proofs.Common.{rules, ◌≡◌, [], ◌∷◌, ◌++◌, Some, None, refl, sym, ap, ◌∙◌, subst, map, ◌+◌, ◌-◌, ◌/◌, arith}
+use Rattle.std.proofs.Common.{rules, ◌≡◌, [], ◌∷◌, ◌++◌, Some, None, refl, sym, ap, ◌∙◌, subst, map, ◌+◌, ◌-◌, ◌/◌, ◌%◌, arith}
 use Rattle.amqp_value.specs.TreeOf.{tree_of}
 use Rattle.amqp_value.specs.MapBuilder.{collected_pairs}
 use Rattle.amqp_value.specs.declared.value.Value.{the_lemmas}
@@ -9,6 +9,8 @@ use Rattle.amqp_decode.specs.Parsed.{all, frame_in, gather, parse, parse_content
 use Rattle.amqp_decode.proofs.Steps.{item-zero, byte-ok, byte-err, item-ok, item-err, parse-zero, parse-at, parse-empty, values-and_then, insert-and_then, insert-no_key, insert-no_value, list-none, map-none, items-none, array-found, array-none}
 use Rattle.amqp_decode.specs.WithoutBytes.{IsExceeded, own_items, in_array, content_without_bytes, elements_without_bytes, frame_around, in_payload}
 use Rattle.amqp_decode.proofs.Counts.{count-at, content-count, found-count, byte-count, sum-step, sum-more, pair-step, key-more, value-more, remains-step, remains-exceeded, leaves-none, leaves-at, leaves-both, exceeded-items, exceeded-more, array-count, spends-at}
+use Rattle.amqp_decode.specs.Faults.{fault_around, fault_in, fault_in_item}
+use Rattle.amqp_decode.proofs.FaultLemmas.{fails-as, fails-at, fails-there, fault-zero, fault-at, fault-empty, item-fault-zero, item-fault, item-ends, byte-fault, values-step, values-here, values-end, pair-fault, key-fault, value-fault, even-map, array-fault}
 use Rattle.amqp_decode.proofs.read.+read.Goals as goal
 
 pub read_item-returns-then-depth-eq0-clause-err : goal.read_item-returns-then-depth-eq0-clause-err
@@ -178,6 +180,7 @@ read_list-loop-read-preserved t c =
       values = rw pushed (step ∙ c.loop-read.invariant.values);
       limit = remains-step _ _ _ _ _ _ _ (sum-step (elements_without_bytes c.args.depth) (parse c.args.depth) c.args.count c.loop-read.read c.loop-read.rest.now c.push_value.new.bytes.now (tree_of p.0) c.loop-read-test.true p.2)
           c.loop-read.invariant.limit c.in_ok-push_value.ensures.limit;
+      fault = values-step (fault_in c.args.depth) (parse c.args.depth) c.args.count c.loop-read.read c.loop-read.rest.now c.push_value.new.bytes.now (tree_of p.0) c.loop-read-test.true p.2 ∙ c.loop-read.invariant.fault;
     }
 
 pub read_list-returns-in_err-push_value-clause-err : goal.read_list-returns-in_err-push_value-clause-err
@@ -199,6 +202,7 @@ read_entries-loop-preserved t c =
     record {
       values = ap (insert (parse c.args.depth) (c.args.count / 2 - (c.loop.counter + 1)) c.read_value-in-loop.new.bytes.now) c.in_ok-insert.ensures.ok ∙ (step ∙ c.loop.invariant.values);
       limit = remains-step _ _ _ _ _ _ _ refl (remains-step _ _ _ _ _ _ _ sum c.loop.invariant.limit c.in_ok-key.ensures.limit) c.in_ok-value.ensures.limit;
+      fault = pair-fault (fault_in c.args.depth) (parse c.args.depth) (c.args.count / 2) c.loop.counter c.loop.rest.now c.read_value.new.bytes.now c.read_value-in-loop.new.bytes.now (tree_of c.in_ok-key.key) (tree_of c.in_ok-value.value) c.loop-test.true c.in_ok-key.ensures.ok c.in_ok-value.ensures.ok ∙ c.loop.invariant.fault;
     }
 
 pub read_entries-returns-in_err-key-clause-err : goal.read_entries-returns-in_err-key-clause-err
@@ -236,6 +240,7 @@ read_items-loop-preserved t c =
     record {
       values = rw pushed (step ∙ c.loop.invariant.values);
       limit = remains-step _ _ _ _ _ _ _ sum c.loop.invariant.limit c.in_ok-item.ensures.limit;
+      fault = values-step (fault_in_item c.args.depth c.args.code) (payload_in (parse_content c.args.depth) c.args.code) c.in_ok-left.left c.loop.counter c.loop.rest.now c.read_item.new.bytes.now (tree_of c.in_ok-item.item) c.loop-test.true c.in_ok-item.ensures.ok ∙ c.loop.invariant.fault;
     }
 
 pub read_items-returns-in_err-item-clause-err : goal.read_items-returns-in_err-item-clause-err
@@ -288,3 +293,93 @@ read_array-returns-in_err-spend_items-in-Some-clause-limit t c =
     let over : IsExceeded c.args.limit.now (own_items c.in_ok-code-in-Some.code c.args.count) → IsExceeded c.args.limit.now (in_array (content_without_bytes c.args.depth) (parse_content c.args.depth) (c.args.count, c.args.body.now)) =
     λ h. subst (IsExceeded c.args.limit.now) (sym all_of) (exceeded-more _ _ _ h) in
     search (rules, over)
+
+pub read_item-returns-then-depth-eq0-clause-fault : goal.read_item-returns-then-depth-eq0-clause-fault
+read_item-returns-then-depth-eq0-clause-fault t c = λ _ _. item-fault-zero c.args.depth c.args.code c.args.bytes.now.now c.if-depth-eq0.true
+
+pub read_item-returns-clause-fault : goal.read_item-returns-clause-fault
+read_item-returns-clause-fault t c =
+    fails-at c.read_content.result _ _ (item-fault c.args.depth c.args.code c.args.bytes.now.now c.in_ok-content.content.now c.in_ok-content.rest.now
+    (omega (arith, c.if-depth-eq0.false)) c.in_ok-content.ensures.ok) c.read_content.ensures.fault
+
+pub read_item-returns-in_err-content-clause-fault : goal.read_item-returns-in_err-content-clause-fault
+read_item-returns-in_err-content-clause-fault t c =
+    let ends = c.in_err-content.ensures.eof ∙ item-ends c.args.depth c.args.code c.args.bytes.now.now (omega (arith, c.if-depth-eq0.false)) c.in_err-content.ensures.err in
+    search (rules, ends)
+
+pub read_value-returns-then-depth-eq0-clause-fault : goal.read_value-returns-then-depth-eq0-clause-fault
+read_value-returns-then-depth-eq0-clause-fault t c = λ _ _. fault-zero c.args.depth c.args.bytes.now.now c.if-depth-eq0.true
+
+pub read_value-returns-in-None-clause-fault : goal.read_value-returns-in-None-clause-fault
+read_value-returns-in-None-clause-fault t c = λ _ _. fault-empty c.args.depth c.args.bytes.now.now (omega (arith, c.if-depth-eq0.false)) (search rules)
+
+pub read_value-returns-in_default-clause-fault : goal.read_value-returns-in_default-clause-fault
+read_value-returns-in_default-clause-fault t c =
+    let bytes : c.args.bytes.now.now ≡ c.in-Some.code.now ∷ c.in-Some.rest.now = search rules in
+    fails-at c.read_after_code.result _ _ (ap (fault_around (c.args.depth - 1)) (sym bytes) ∙ fault-at c.args.depth c.args.bytes.now.now (omega (arith, c.if-depth-eq0.false)))
+    c.read_after_code.ensures.fault
+
+pub push_value-returns-then-depth-eq0-clause-fault : goal.push_value-returns-then-depth-eq0-clause-fault
+push_value-returns-then-depth-eq0-clause-fault t c = λ _ _. fault-zero c.args.depth c.args.bytes.now.now c.if-depth-eq0.true
+
+pub push_value-returns-in-None-clause-fault : goal.push_value-returns-in-None-clause-fault
+push_value-returns-in-None-clause-fault t c = λ _ _. fault-empty c.args.depth c.args.bytes.now.now (omega (arith, c.if-depth-eq0.false)) (search rules)
+
+pub push_value-returns-in_err-value-in-Some-clause-fault : goal.push_value-returns-in_err-value-in-Some-clause-fault
+push_value-returns-in_err-value-in-Some-clause-fault t c =
+    let bytes : c.args.bytes.now.now ≡ c.in-Some.code.now ∷ c.in-Some.rest.now = search rules in
+    let fails = fails-as _ _ _ (ap (fault_around (c.args.depth - 1)) (sym bytes) ∙ fault-at c.args.depth c.args.bytes.now.now (omega (arith, c.if-depth-eq0.false))) c.in_err-value-in-Some.ensures.fault in
+    search (rules, fails)
+
+pub read_list-returns-in_err-push_value-clause-fault : goal.read_list-returns-in_err-push_value-clause-fault
+read_list-returns-in_err-push_value-clause-fault t c =
+    let fails = fails-there _ _ _ (parse c.args.depth c.loop-read.rest.now ≡ None) c.in_err-push_value.ensures.err c.in_err-push_value.ensures.fault
+    (λ h. values-here (fault_in c.args.depth) (parse c.args.depth) c.args.count c.loop-read.read c.loop-read.rest.now c.loop-read-test.true h ∙ c.loop-read.invariant.fault) in
+    search (rules, fails)
+
+pub read_items-returns-in_err-item-clause-fault : goal.read_items-returns-in_err-item-clause-fault
+read_items-returns-in_err-item-clause-fault t c =
+    let fails = fails-there _ _ _ (payload_in (parse_content c.args.depth) c.args.code c.loop.rest.now ≡ None) c.in_err-item.ensures.err c.in_err-item.ensures.fault
+    (λ h. values-here (fault_in_item c.args.depth c.args.code) (payload_in (parse_content c.args.depth) c.args.code) c.in_ok-left.left c.loop.counter c.loop.rest.now c.loop-test.true h ∙ c.loop.invariant.fault) in
+    search (rules, fails)
+
+pub read_array-returns-in_err-items-in-Some-clause-fault : goal.read_array-returns-in_err-items-in-Some-clause-fault
+read_array-returns-in_err-items-in-Some-clause-fault t c =
+    let body : c.args.body.now ≡ c.in-Some.constructor.now ∷ c.in-Some.payloads.now = search rules in
+    let named : primitive_of c.in-Some.constructor.now ≡ Some c.in_ok-code-in-Some.code = search rules in
+    let fails = fails-as _ _ _ (array-fault (fault_in_item c.args.depth) (parse_content c.args.depth) c.in-Some.constructor.now c.in_ok-code-in-Some.code c.args.count c.args.body.now c.in-Some.payloads.now named body) c.in_err-items-in-Some.ensures.fault in
+    search (rules, fails)
+
+pub read_after_code-returns-in-160-clause-fault : goal.read_after_code-returns-in-160-clause-fault
+read_after_code-returns-in-160-clause-fault t c = fails-at c.read_named.result _ _ (byte-fault c.args.depth c.args.code code.Vbin8 c.args.bytes.now.now c.in-160.is refl) c.read_named.ensures.fault
+
+pub read_after_code-returns-in-161-clause-fault : goal.read_after_code-returns-in-161-clause-fault
+read_after_code-returns-in-161-clause-fault t c = fails-at c.read_named-in-161.result _ _ (byte-fault c.args.depth c.args.code code.Str8 c.args.bytes.now.now c.in-161.is refl) c.read_named-in-161.ensures.fault
+
+pub read_after_code-returns-in-163-clause-fault : goal.read_after_code-returns-in-163-clause-fault
+read_after_code-returns-in-163-clause-fault t c = fails-at c.read_named-in-163.result _ _ (byte-fault c.args.depth c.args.code code.Sym8 c.args.bytes.now.now c.in-163.is refl) c.read_named-in-163.ensures.fault
+
+pub read_after_code-returns-in-192-clause-fault : goal.read_after_code-returns-in-192-clause-fault
+read_after_code-returns-in-192-clause-fault t c = fails-at c.read_named-in-192.result _ _ (byte-fault c.args.depth c.args.code code.List8 c.args.bytes.now.now c.in-192.is refl) c.read_named-in-192.ensures.fault
+
+pub read_after_code-returns-in-177-clause-fault : goal.read_after_code-returns-in-177-clause-fault
+read_after_code-returns-in-177-clause-fault t c = fails-at c.read_named-in-177.result _ _ (byte-fault c.args.depth c.args.code code.Str32 c.args.bytes.now.now c.in-177.is refl) c.read_named-in-177.ensures.fault
+
+pub read_after_code-returns-in-208-clause-fault : goal.read_after_code-returns-in-208-clause-fault
+read_after_code-returns-in-208-clause-fault t c = fails-at c.read_named-in-208.result _ _ (byte-fault c.args.depth c.args.code code.List32 c.args.bytes.now.now c.in-208.is refl) c.read_named-in-208.ensures.fault
+
+pub read_entries-returns-in_err-key-clause-fault : goal.read_entries-returns-in_err-key-clause-fault
+read_entries-returns-in_err-key-clause-fault t c =
+    let even : c.args.count % 2 ≡ 0 = search (arith, rules) in
+    let fails = fails-there _ _ _ (parse c.args.depth c.loop.rest.now ≡ None) c.in_err-key.ensures.err c.in_err-key.ensures.fault
+    (λ h. key-fault (fault_in c.args.depth) (parse c.args.depth) (c.args.count / 2) c.loop.counter c.loop.rest.now c.loop-test.true h
+    ∙ (c.loop.invariant.fault ∙ even-map (fault_in c.args.depth) (parse c.args.depth) c.args.count c.args.body.now even)) in
+    search (rules, fails)
+
+pub read_entries-returns-in_err-value-clause-fault : goal.read_entries-returns-in_err-value-clause-fault
+read_entries-returns-in_err-value-clause-fault t c =
+    let even : c.args.count % 2 ≡ 0 = search (arith, rules) in
+    let fails = fails-there _ _ _ (parse c.args.depth c.read_value.new.bytes.now ≡ None) c.in_err-value.ensures.err c.in_err-value.ensures.fault
+    (λ h. value-fault (fault_in c.args.depth) (parse c.args.depth) (c.args.count / 2) c.loop.counter c.loop.rest.now c.read_value.new.bytes.now (tree_of c.in_ok-key.key) c.loop-test.true c.in_ok-key.ensures.ok h
+    ∙ (c.loop.invariant.fault ∙ even-map (fault_in c.args.depth) (parse c.args.depth) c.args.count c.args.body.now even)) in
+    search (rules, fails)

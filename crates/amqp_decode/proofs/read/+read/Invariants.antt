@@ -4,6 +4,7 @@ use Rattle.amqp_value.specs.TreeOf.{tree_of}
 use Rattle.amqp_value.specs.MapBuilder.{collected_pairs}
 use Rattle.amqp_decode.specs.Parsed.{parse, parse_content, payload_in, gather, insert}
 use Rattle.amqp_decode.specs.WithoutBytes.{content_without_bytes, elements_without_bytes, in_payload, sum_of}
+use Rattle.amqp_decode.specs.Faults.{fault_in, fault_in_item, fault_of_values}
 use Rattle.amqp_decode.proofs.Counts.{Remains}
 use Rattle.amqp_decode.proofs.read.+read.Given as goal
 
@@ -49,6 +50,7 @@ invariant-read_list-loop-read l = record {
   values : gather (parse l.depth) (l.count - l.read) l.rest (map tree_of l.list.items) ≡ gather (parse l.depth) l.count l.body [];
   limit : Remains l.initial.limit l.limit (sum_of (elements_without_bytes l.depth) (parse l.depth) l.count l.body)
       (sum_of (elements_without_bytes l.depth) (parse l.depth) (l.count - l.read) l.rest);
+  fault : fault_of_values (fault_in l.depth) (parse l.depth) (l.count - l.read) l.rest ≡ fault_of_values (fault_in l.depth) (parse l.depth) l.count l.body;
 }
 
 abbrev pub invariant-read_entries-loop : goal.invariant-read_entries-loop
@@ -56,6 +58,7 @@ invariant-read_entries-loop l = record {
   values : insert (parse l.depth) (l.end - l.counter) l.rest (collected_pairs l.pairs) ≡ insert (parse l.depth) (l.count / 2) l.body no_pairs;
   limit : Remains l.initial.limit l.limit (sum_of (elements_without_bytes l.depth) (parse l.depth) l.count l.body)
       (sum_of (elements_without_bytes l.depth) (parse l.depth) (2 * (l.end - l.counter)) l.rest);
+  fault : fault_of_values (fault_in l.depth) (parse l.depth) (2 * (l.end - l.counter)) l.rest ≡ fault_of_values (fault_in l.depth) (parse l.depth) l.count l.body;
 }
 
 abbrev pub invariant-read_items-loop : goal.invariant-read_items-loop
@@ -63,4 +66,6 @@ invariant-read_items-loop l = record {
   values : gather (payload_in (parse_content l.depth) l.code) (l.left - l.counter) l.rest (map tree_of l.items.items) ≡ gather (payload_in (parse_content l.depth) l.code) l.count l.payloads [];
   limit : Remains l.initial.limit l.limit (sum_of (in_payload (content_without_bytes l.depth) l.code) (payload_in (parse_content l.depth) l.code) l.count l.payloads)
       (sum_of (in_payload (content_without_bytes l.depth) l.code) (payload_in (parse_content l.depth) l.code) (l.left - l.counter) l.rest);
+  fault : fault_of_values (fault_in_item l.depth l.code) (payload_in (parse_content l.depth) l.code) (l.left - l.counter) l.rest
+      ≡ fault_of_values (fault_in_item l.depth l.code) (payload_in (parse_content l.depth) l.code) l.count l.payloads;
 }

@@ -2,6 +2,7 @@ use Rattle.std.proofs.Common.{◌≡◌, map, ◌-◌}
 use Rattle.amqp_value.specs.TreeOf.{tree_of}
 use Rattle.amqp_decode.specs.Parsed.{parse_content, payload_in, gather}
 use Rattle.amqp_decode.specs.WithoutBytes.{content_without_bytes, in_payload, sum_of}
+use Rattle.amqp_decode.specs.Faults.{fault_in_item, fault_of_values}
 use Rattle.amqp_decode.proofs.run.read_fixed_run.Given as goal
 
 -- The remaining payloads, after the elements so far, give all elements, and have as many elements
@@ -12,4 +13,6 @@ invariant-loop-read l = record {
       ≡ gather (payload_in (parse_content l.depth) l.fn.code) l.count l.initial.rest (map tree_of l.initial.items.items);
   none : sum_of (in_payload (content_without_bytes l.depth) l.fn.code) (payload_in (parse_content l.depth) l.fn.code) (l.count - l.read) l.rest
       ≡ sum_of (in_payload (content_without_bytes l.depth) l.fn.code) (payload_in (parse_content l.depth) l.fn.code) l.count l.initial.rest;
+  faults : fault_of_values (fault_in_item l.depth l.fn.code) (payload_in (parse_content l.depth) l.fn.code) (l.count - l.read) l.rest
+      ≡ fault_of_values (fault_in_item l.depth l.fn.code) (payload_in (parse_content l.depth) l.fn.code) l.count l.initial.rest;
 }
