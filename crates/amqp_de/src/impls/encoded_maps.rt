@@ -44,7 +44,8 @@ fn read_entry<K: Deserialize, V: Deserialize>(
 /// Reads `count` keys and values that fill the body of a map.
 ///
 /// # Errors
-/// Returns `GaveUp` as `Deserialize::read_list` does.
+/// Returns `GaveUp` as `Deserialize::read_list` does, and if `have_distinct_trees` of the keys is
+/// false for no entries.
 ///
 /// # Memory
 /// Reserves memory for entries as `Deserialize::read_list` does for elements.
@@ -59,6 +60,10 @@ pub(crate) fn read_entries<K: Deserialize, V: Deserialize>(
         (Reading V.reads V.image V.restorable V.same)) (parse (suc depth)) count body.now v.items) }
 {
     let mut entries = Vec::new(alloc);
+    // Keys whose trees are never shown to be distinct.
+    if !K::have_distinct_trees(alloc, &entries) {
+        return Err(GaveUp);
+    }
     let mut rest = body;
     for read in 0..count {
         let entry = read_entry::<K, V>(alloc, &mut rest, depth)?;
