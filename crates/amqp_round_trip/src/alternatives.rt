@@ -1,11 +1,11 @@
 //! Round trips of composites, and of values that are one of several composites.
 
-ghost use Rattle.std.specs.Prelude.{Option, None};
-ghost use Rattle.amqp_ser.specs.Tree.{Tree, code, described};
-ghost use Rattle.amqp_de.specs.Composites.{either};
+ghost use Rattle.std.specs.Prelude.{ℕ, Option, None};
+ghost use Rattle.amqp_ser.specs.Tree.{Tree, code, described, scalar, null};
+ghost use Rattle.amqp_de.specs.Composites.{either, RestorableAlternative};
 ghost use Rattle.amqp_round_trip.specs.HasImage.{HasImage};
 
-use amqp_de::{Alternatives, Composite, Either, Never};
+use amqp_de::{Composite, Either, Never};
 use amqp_ser::Serialize;
 
 /// A composite that can be read from the untyped value that it is converted to.
@@ -22,20 +22,38 @@ pub trait RoundTripComposite: Serialize + Composite {
 
 /// One of several such composites.
 ///
+/// The members but `trees` are those of `Alternatives` of the same type, stated again. As a subtrait,
+/// each composite would bring both traits of all composites after it into a check.
+///
 /// # Implementer notes
 /// `law` is required and does nothing. Its contract is the law.
-pub trait RoundTripAlternatives: Alternatives {
+pub trait RoundTripAlternatives: Sized {
     /// The tree of the composite.
     ghost trees: { Self → Option Tree };
 
+    /// The code of a value.
+    ghost code_of: { Self → ℕ };
+
+    /// The tree after the descriptor of the untyped value that represents a value.
+    ghost image: { Self → Tree };
+
+    /// Whether a value round-trips through its image.
+    ghost restorable: { Self → Type 0 };
+
     /// States the law of each composite.
     fn law()
-        ensures { (x : Self) → Self.restorable x →
-            HasImage (trees x) (described (code (Self.code_of x)) (Self.image x)) };
+        ensures { (x : Self) → restorable x →
+            HasImage (trees x) (described (code (code_of x)) (image x)) };
 }
 
 impl RoundTripAlternatives for Never {
     ghost trees = { λ _. None };
+
+    ghost code_of = { λ _. 0 };
+
+    ghost image = { λ _. scalar null };
+
+    ghost restorable = { λ _. ⊥ };
 
     fn law() {}
 }
@@ -43,6 +61,12 @@ impl RoundTripAlternatives for Never {
 #[tactic(auto, using(crate::proofs::AlternativeLemmas::either_stands))]
 impl<T: RoundTripComposite, R: RoundTripAlternatives> RoundTripAlternatives for Either<T, R> {
     ghost trees = { either T.tree R.trees };
+
+    ghost code_of = { either (λ _. T.descriptor_code) R.code_of };
+
+    ghost image = { either T.image R.image };
+
+    ghost restorable = { RestorableAlternative T.descriptor_code R.code_of T.restorable R.restorable };
 
     fn law() {
         T::composite_law();
