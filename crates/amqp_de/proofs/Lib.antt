@@ -18,3 +18,4 @@ pub mod MultipleReadings
 pub mod DefaultedReadings
 pub mod CompositeReadings
 pub mod DescriptorReadings
+pub mod ReadingLaws

@@ -16,4 +16,5 @@ pub mod Multiple
 pub mod Composites
 pub mod Access
 pub mod Events
+pub mod Readings
 pub mod Encoded

@@ -28,7 +28,8 @@ use amqp_ser::Serialize;
 pub use conversions::{elements_have_one_format_code, scalars_come_back};
 pub use order::{
     bits_compare_as_unsigned_numbers, described_values_come_before_null, equal_values_hash_alike,
-    maps_go_by_pairs_in_order, order_agrees_with_equality, order_is_of_contents,
+    hashes_tell_keys_apart, maps_go_by_pairs_in_order, order_agrees_with_equality,
+    order_is_of_contents,
 };
 
 /// The tree of a scalar value is the tree of its content.

@@ -1,18 +1,20 @@
 //! Laws of order, equality and hash.
 
-ghost use Rattle.std.specs.Prelude.{◌≡◌, ◌<◌, ◌&&◌, [], ◌∷◌, Box, true, false};
+ghost use Rattle.std.specs.Prelude.{◌≡◌, ◌<◌, ◌^◌, ◌&&◌, ℕ, [], ◌∷◌, Box, String, string_bytes, true, false};
 ghost use Rattle.std.specs.Cmp.Lexicographic.{pointwise};
 ghost use Rattle.std.specs.Global.{Global};
 ghost use Rattle.std.specs.Ordering.{is_eq, nat_cmp};
 ghost use Rattle.std.specs.declared.cmp.Ordering.TheVariants.{Less};
 ghost use Rattle.amqp_data.specs.Fixed.{f32_bits, f64_bits};
+ghost use Rattle.amqp_data.specs.Items.{byte_buf_bytes};
 ghost use Rattle.amqp_data.specs.Pairs.{entries_of};
+ghost use Rattle.amqp_data.specs.Text.{symbol_text};
 ghost use Rattle.amqp_value.specs.Order.{cmp_tree, rank};
 ghost use Rattle.amqp_value.specs.TreeOf.{tree_of};
 ghost use Rattle.amqp_value.specs.declared.value.Value.TheVariants as kind;
 
 use crate::Value;
-use amqp_data::{Described, F32Bits, F64Bits, OrderedMap};
+use amqp_data::{ByteBuf, Described, F32Bits, F64Bits, OrderedMap, Symbol};
 use std::hash::Hash;
 
 /// Two values compare as their trees do: by kind first, and then by content.
@@ -40,6 +42,26 @@ pub fn order_agrees_with_equality()
 pub fn equal_values_hash_alike()
     ensures { (a b : Value) → ⟦<Value as PartialEq>⟧.eq a b ≡ true
         → ⟦<Value as Hash>⟧.hash_input a ≡ ⟦<Value as Hash>⟧.hash_input b }
+{}
+
+/// Two keys of these kinds with the same hash input have the same content.
+///
+/// # Memory
+/// None.
+pub fn hashes_tell_keys_apart()
+    ensures strings { (a b : String Global) → ⟦<Value as Hash>⟧.hash_input (kind.String a)
+        ≡ ⟦<Value as Hash>⟧.hash_input (kind.String b) → string_bytes a ≡ string_bytes b }
+    ensures symbols { (a b : Symbol) → ⟦<Value as Hash>⟧.hash_input (kind.Symbol a)
+        ≡ ⟦<Value as Hash>⟧.hash_input (kind.Symbol b) → symbol_text a ≡ symbol_text b }
+    ensures binaries { (a b : ByteBuf) → ⟦<Value as Hash>⟧.hash_input (kind.Binary a)
+        ≡ ⟦<Value as Hash>⟧.hash_input (kind.Binary b) → byte_buf_bytes a ≡ byte_buf_bytes b }
+    ensures uints { (m n : ℕ) → m < 2 ^ 32 → n < 2 ^ 32 → ⟦<Value as Hash>⟧.hash_input (kind.Uint m)
+        ≡ ⟦<Value as Hash>⟧.hash_input (kind.Uint n) → m ≡ n }
+    ensures ulongs { (m n : ℕ) → m < 2 ^ 64 → n < 2 ^ 64
+        → ⟦<Value as Hash>⟧.hash_input (kind.Ulong m)
+        ≡ ⟦<Value as Hash>⟧.hash_input (kind.Ulong n) → m ≡ n }
+    ensures kinds { (a : String Global) (b : Symbol) → ¬ (⟦<Value as Hash>⟧.hash_input (kind.String a)
+        ≡ ⟦<Value as Hash>⟧.hash_input (kind.Symbol b)) }
 {}
 
 /// Maps are compared entry by entry, in order. If two maps have the same two entries in opposite
