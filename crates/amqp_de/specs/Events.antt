@@ -30,6 +30,7 @@ pub data Event : Type 0 where
   enum_event : Tree → Option Tree → Event
   described_event : Descriptor → Tree → Event
   value_event : Tree → Event
+  bytes_event : List ℕ → Event
 
 -- The visit that reports an event.
 abbrev pub visit_of : Event → Visit
@@ -42,6 +43,7 @@ visit_of (map_event es) = visit.Map
 visit_of (enum_event t d) = visit.Enum
 visit_of (described_event d t) = visit.Described
 visit_of (value_event t) = visit.Value
+visit_of (bytes_event b) = visit.Bytes
 
 -- The event of null, an absent value or a scalar.
 abbrev pub plain_shown : Plain → Event
@@ -152,16 +154,15 @@ module _ {T : Type 0} (G : Event → T → Type 0) where
   ByEnum false false true = ByFormat
   ByEnum false false false = ByVariant
 
-  -- A symbol is reported as a string, a timestamp as a long, and another scalar as an untyped
-  -- value.
+  -- A symbol is reported as a string, a timestamp as a long, and a decimal or a uuid as its bytes.
   abbrev pub BySymbol : Tree → T → Type 0
   BySymbol t x = (s : List ℕ) × (t ≡ scalar (tree.symbol s)) × G (plain_event (tree.string s)) x
 
   abbrev pub ByTimestamp : Tree → T → Type 0
   ByTimestamp t x = (z : ℤ) × (t ≡ scalar (tree.timestamp z)) × G (plain_event (tree.long z)) x
 
-  abbrev pub ByKind : {A : Type 0} → (A → Scalar) → Tree → T → Type 0
-  ByKind {A} kind t x = (a : A) × (t ≡ scalar (kind a)) × G (value_event (scalar (kind a))) x
+  abbrev pub ByBytes : (List ℕ → Scalar) → Tree → T → Type 0
+  ByBytes kind t x = (b : List ℕ) × (t ≡ scalar (kind b)) × G (bytes_event b) x
 
   -- Any tree is reported as the value of a newtype.
   abbrev pub ByNewtype : Tree → T → Type 0
@@ -175,10 +176,10 @@ module _ {T : Type 0} (G : Event → T → Type 0) where
   abbrev pub ByMarker : Marker → Tree → T → Type 0
   ByMarker marker.Symbol = BySymbol
   ByMarker marker.Timestamp = ByTimestamp
-  ByMarker marker.Decimal32 = ByKind tree.decimal32
-  ByMarker marker.Decimal64 = ByKind tree.decimal64
-  ByMarker marker.Decimal128 = ByKind tree.decimal128
-  ByMarker marker.Uuid = ByKind tree.uuid
+  ByMarker marker.Decimal32 = ByBytes tree.decimal32
+  ByMarker marker.Decimal64 = ByBytes tree.decimal64
+  ByMarker marker.Decimal128 = ByBytes tree.decimal128
+  ByMarker marker.Uuid = ByBytes tree.uuid
   ByMarker marker.Array = ByArray
   ByMarker marker.Transparent = ByNewtype
   ByMarker marker.Lazy = ByWritten

@@ -49,7 +49,7 @@ use std::alloc::Global;
 /// | any, ignored | `deserialize_ignored_any` | `visit_unit` |
 ///
 /// A name of [`amqp_data::markers`] selects another row. A newtype of such a name accepts a symbol
-/// (`visit_string`), a timestamp (`visit_i64`), a uuid or a decimal (`visit_value`), an array
+/// (`visit_string`), a timestamp (`visit_i64`), a uuid or a decimal (`visit_bytes`), an array
 /// (`visit_seq`), or any value as its encoding (`visit_byte_buf`). A struct accepts a described
 /// value. An enum accepts any value (`visit_value`), a descriptor (`visit_u64`, `visit_string`), or
 /// an array or a format code (`visit_seq`, `visit_u8`).

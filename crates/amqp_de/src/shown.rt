@@ -25,6 +25,8 @@ pub enum Visit {
     Described,
     /// `visit_value`: an untyped value.
     Value,
+    /// `visit_bytes`: the bytes of a decimal or a uuid.
+    Bytes,
 }
 
 /// The argument of `visit_plain`: null, an absent value or a scalar.

@@ -6,7 +6,7 @@ ghost use Rattle.amqp_data.specs.Items.{byte_buf_bytes};
 ghost use Rattle.amqp_ser.specs.Carried.{descriptor_content};
 ghost use Rattle.amqp_ser.specs.Tree.{null, bool, ubyte, ushort, uint, ulong, byte, short, int, long, float, double, char, binary, string};
 ghost use Rattle.amqp_value.specs.TreeOf.{tree_of};
-ghost use Rattle.amqp_de.specs.Events.{Event, Visits, visit_of, plain_shown, plain_event, none_event, some_event, newtype_event, seq_event, map_event, enum_event, described_event, value_event};
+ghost use Rattle.amqp_de.specs.Events.{Event, Visits, visit_of, plain_shown, plain_event, none_event, some_event, newtype_event, seq_event, map_event, enum_event, described_event, value_event, bytes_event};
 
 use crate::access::{EnumAccess, MapAccess, SeqAccess};
 use crate::deserialize_error::DeserializeError;
@@ -190,6 +190,27 @@ pub trait Visitor: Sized + Drop {
             same E.is_out_of_memory (value_event (tree_of value)) result }
     {
         Err(unwritten(self.refuses(Visit::Value)))
+    }
+
+    /// Visits the bytes of a decimal or a uuid. The call of the deserializer determines which of
+    /// them it is, and so the number of bytes.
+    ///
+    /// # Errors
+    /// Returns an error other than out of memory only if this event produces no value. The default
+    /// returns `DeserializeError::invalid_value` if `refuses` returns `true`, and
+    /// `DeserializeError::out_of_memory` otherwise.
+    ///
+    /// # Memory
+    /// None: the bytes are borrowed.
+    ///
+    /// # Example
+    /// `deserialize_newtype_struct` under the name `DECIMAL32` passes 01, 02, 03 and 04 for the
+    /// decimal that is encoded as `7401020304`.
+    fn visit_bytes<E: DeserializeError>(self, bytes: &[u8]) -> Result<Self::Value, E>
+        ensures { Visits (gives self) (represents self)
+            same E.is_out_of_memory (bytes_event bytes.now) result }
+    {
+        Err(unwritten(self.refuses(Visit::Bytes)))
     }
 
     /// Visits `()`, from null.

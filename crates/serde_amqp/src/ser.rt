@@ -3,9 +3,9 @@
 pub use crate::fields;
 pub use amqp_data::markers;
 pub use amqp_ser::{
-    Compound, CompoundKind, Field, Fields, Fixed, Keys, ListOf, MapOf, Marker, Name, OptionalField,
-    Serialize, SerializeCompounds, SerializeMap, SerializeScalars, SerializeSeq, SerializeStruct,
-    SerializeStructVariant, SerializeTuple, SerializeTupleStruct, SerializeTupleVariant,
-    Serializer, SymbolMapOf, VariantOf, marker_named,
+    Compound, CompoundKind, Field, Fields, Fixed, Header, Keys, ListOf, MapOf, Marker, Name,
+    OptionalField, Serialize, SerializeCompounds, SerializeMap, SerializeScalars, SerializeSeq,
+    SerializeStruct, SerializeStructVariant, SerializeTuple, SerializeTupleStruct,
+    SerializeTupleVariant, Serializer, StructEncoding, SymbolMapOf, VariantOf, Whole, marker_named,
 };
 pub use amqp_wire::{to_lazy_value, to_vec};

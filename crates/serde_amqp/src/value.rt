@@ -8,4 +8,6 @@ pub use amqp_round_trip::{
     MapKey, RoundTrip, RoundTripAlternatives, RoundTripComposite, RoundTripFields, laws, round_trip,
 };
 pub use amqp_to_value::{TryFromSerializable, to_value};
-pub use amqp_value::{BuildList, BuildMap, ConvertFault, IntoValue, Value, ValueKind};
+pub use amqp_value::{
+    BuildList, BuildMap, ConvertFault, IntoValue, MapBuilder, Value, ValueKind, is_short_key,
+};

@@ -12,4 +12,5 @@ mod readers;
 mod scalars;
 mod shown;
 mod sizes;
+mod tried;
 mod written;

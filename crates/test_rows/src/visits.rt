@@ -224,6 +224,10 @@ impl Visitor for Which {
     fn visit_value<E: DeserializeError>(self, _value: Value) -> Result<Visit, E> {
         Ok(Visit::Value)
     }
+
+    fn visit_bytes<E: DeserializeError>(self, _bytes: &[u8]) -> Result<Visit, E> {
+        Ok(Visit::Bytes)
+    }
 }
 
 // Returns the name of a visit.
@@ -237,5 +241,6 @@ fn visit_name(visit: Visit) -> &'static str {
         Visit::Enum => "enum",
         Visit::Described => "described",
         Visit::Value => "value",
+        Visit::Bytes => "bytes",
     }
 }

@@ -344,7 +344,8 @@ pub trait DeserializeCompounds: Deserializer {
     ///
     /// # Example
     /// For the symbol `a` and `Marker::Symbol`, calls `visit_string` with `a`. For a timestamp of
-    /// 13 milliseconds and `Marker::Timestamp`, calls `visit_i64(13)`.
+    /// 13 milliseconds and `Marker::Timestamp`, calls `visit_i64(13)`. For the decimal encoded as
+    /// `7401020304` and `Marker::Decimal32`, calls `visit_bytes` with the bytes 01 to 04.
     final fn deserialize_marked<V: Visitor>(
         self,
         marker: Marker,
@@ -367,21 +368,19 @@ pub trait DeserializeCompounds: Deserializer {
                 _ => Err(Self::Error::invalid_value()),
             },
             Marker::Decimal32 => match self.open() {
-                Content::Decimal32(value) => visitor.visit_value(untyped::decimal32_value(value)),
+                Content::Decimal32(value) => visitor.visit_bytes(value.as_inner()),
                 _ => Err(Self::Error::invalid_value()),
             },
             Marker::Decimal64 => match self.open() {
-                Content::Decimal64(value) => visitor.visit_value(untyped::decimal64_value(value)),
+                Content::Decimal64(value) => visitor.visit_bytes(value.as_inner()),
                 _ => Err(Self::Error::invalid_value()),
             },
             Marker::Decimal128 => match self.open() {
-                Content::Decimal128(value) => {
-                    visitor.visit_value(untyped::decimal128_value(value))
-                }
+                Content::Decimal128(value) => visitor.visit_bytes(value.as_inner()),
                 _ => Err(Self::Error::invalid_value()),
             },
             Marker::Uuid => match self.open() {
-                Content::Uuid(value) => visitor.visit_value(untyped::uuid_value(value)),
+                Content::Uuid(value) => visitor.visit_bytes(value.as_inner()),
                 _ => Err(Self::Error::invalid_value()),
             },
         }
