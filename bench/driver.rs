@@ -3,6 +3,8 @@
 //!     driver list                          each contender, shape and operation that answers, with the answer of one run
 //!     driver run WHO SHAPE OP TIMES        one call, to be counted from outside
 //!     driver maps KIND COUNT OP TIMES      maps read by the project, to be counted from outside
+//!     driver reads                         each type that is read from bytes: WHO is `hand` or `project`, and the bytes' length
+//!     driver reads WHO INDEX TIMES         the type with this index, to be counted from outside
 //!     driver count WHO SHAPE OP            allocations and bytes asked for by one run (where built with --cfg count)
 //!     driver time [OP]                     the least ns of one run, of that operation alone
 //!
@@ -15,7 +17,9 @@ mod plain;
 mod values;
 
 use plain::{Array, Blob, Error, Serialize, Serializer};
+use std::collections::BTreeMap;
 use std::hint::black_box;
+use values::typed::{self, Typed};
 use values::{Parts, Value};
 
 /// Where the library's value of a shape comes from: a rule of its own, or data that it is handed.
@@ -77,7 +81,28 @@ unsafe extern "C" {
     fn amqp_shape(shape: u32, op: u32, times: u64) -> u64;
     fn amqp_bench(work: u32, op: u32, data: *const u8, len: usize, times: u64) -> u64;
     fn amqp_maps(kind: u32, count: u32, op: u32, times: u64) -> u64;
+    fn amqp_read(kind: u32, data: *const u8, len: usize, times: u64) -> u64;
 }
+
+/// What is read from bytes as a type: the number of the type in the library, and how many entries a map has.
+const READS: [(&str, u32, u32); 16] = [
+    ("14 fields", 0, 0),
+    ("1,000 ints", 1, 0),
+    ("1,000 rows of 10", 2, 0),
+    ("1,000 strings", 3, 0),
+    ("array of 10,000", 4, 0),
+    ("map of 1,000 keys, `BTreeMap`", 5, 1000),
+    ("header, 5 fields", 6, 0),
+    ("properties, 13 fields", 7, 0),
+    ("12 text keys, six kinds of values", 8, 0),
+    ("map of 1 text key", 9, 1),
+    ("map of 4 text keys", 9, 4),
+    ("map of 8 text keys", 9, 8),
+    ("map of 12 text keys", 9, 12),
+    ("map of 16 text keys", 9, 16),
+    ("map of 32 text keys", 9, 32),
+    ("map of 96 text keys", 9, 96),
+];
 
 struct Attach {
     name: String,
@@ -196,6 +221,14 @@ fn data(work: u32) -> Vec<u8> {
     }
 }
 
+fn lines() -> Vec<String> {
+    String::from_utf8(data(0)).unwrap().split('\n').map(String::from).collect()
+}
+
+fn numbers() -> Vec<u32> {
+    data(1).chunks(4).map(|four| u32::from_be_bytes(four.try_into().unwrap())).collect()
+}
+
 fn hash(bytes: &[u8]) -> u64 {
     bytes.iter().fold(0xcbf29ce484222325, |h, b| (h ^ *b as u64).wrapping_mul(0x100000001b3))
 }
@@ -214,23 +247,121 @@ fn message() -> Value {
         Null,
         Symbol("application/json".into()),
     ];
-    let application = (0..12).map(|index| {
+    let section = |code, value| Described(Box::new((code, value)));
+    List(Parts(vec![
+        section(0x70, List(Parts(header))),
+        section(0x73, List(Parts(properties))),
+        section(0x74, application()),
+    ]))
+}
+
+/// The properties of the application: values of six kinds.
+fn application() -> Value {
+    use Value::*;
+    let entry = |index| {
         let value = match index % 6 {
-            0 => text("eu-west-1"),
+            0 => Text("eu-west-1".into()),
             1 => Int(70000),
             2 => Bool(index == 2),
             3 => Ulong(1048576),
             4 => Symbol("priority-high".into()),
             _ => Uuid([0x5a; 16]),
         };
-        (text(&format!("property-{index}")), value)
-    });
-    let section = |code, value| Described(Box::new((code, value)));
-    List(Parts(vec![
-        section(0x70, List(Parts(header))),
-        section(0x73, List(Parts(properties))),
-        section(0x74, Map(Parts(application.collect()))),
-    ]))
+        (Text(format!("property-{index}")), value)
+    };
+    Map(Parts((0..12).map(entry).collect()))
+}
+
+/// The bytes of a list of fields after a descriptor.
+fn section(descriptor: u8, fields: &[Vec<u8>]) -> Vec<u8> {
+    let body = fields.concat();
+    let head = [0, 0x53, descriptor, 0xc0, body.len() as u8 + 1, fields.len() as u8];
+    [&head[..], &body].concat()
+}
+
+/// The bytes of a binary, a string or a symbol.
+fn sized(code: u8, bytes: &[u8]) -> Vec<u8> {
+    [&[code, bytes.len() as u8], bytes].concat()
+}
+
+/// The header (AMQP 1.0 part 3, section 3.2.1).
+fn header() -> Vec<u8> {
+    section(0x70, &[b"\x41".into(), b"\x50\x04".into(), b"\x70\x01\x00\x89\x79".into(), b"\x40".into(), b"\x52\x01".into()])
+}
+
+/// The properties (AMQP 1.0 part 3, section 3.2.4).
+fn properties() -> Vec<u8> {
+    let at = |milliseconds: i64| [&[0x83], &milliseconds.to_be_bytes()[..]].concat();
+    let (string, symbol) = (|text: &str| sized(0xa1, text.as_bytes()), |text: &str| sized(0xa3, text.as_bytes()));
+    section(
+        0x73,
+        &[
+            [&[0x98], &[0x5a; 16][..]].concat(),
+            sized(0xa0, &[0xa5; 8]),
+            string("orders/eu-west/incoming"),
+            string("order.created"),
+            string("replies/7f3a9c21"),
+            [&[0x80], &81985529216486895u64.to_be_bytes()[..]].concat(),
+            symbol("application/json"),
+            b"\x40".into(),
+            at(1_800_000_000_000),
+            at(1_700_000_000_123),
+            string("orders-of-today"),
+            b"\x70\x01\x00\x89\x79".into(),
+        ],
+    )
+}
+
+/// A map from texts, which do not ascend, to numbers.
+fn texts(count: u32) -> Value {
+    let entry = |number: u32| (Value::Text(format!("property-{}", number * 37 % 101)), Value::Uint(number));
+    Value::Map(Parts((0..count).map(entry).collect()))
+}
+
+/// The bytes that are read as the type with this index.
+fn read_bytes(index: usize) -> Vec<u8> {
+    let written = |value: Value| values::bytes::to_vec(&value).unwrap();
+    let plain = match READS[index] {
+        (_, 0, _) => plain::table(&attach()),
+        (_, 1, _) => plain::table(&ints(0, 1000)),
+        (_, 2, _) => plain::table(&(0..1000).map(|i| ints(i, 10)).collect::<Vec<_>>()),
+        (_, 3, _) => plain::table(&lines()),
+        (_, 4, _) => plain::table(&Array(numbers())),
+        (_, 5, count) => return written(numbered(count)),
+        (_, 6, _) => return header(),
+        (_, 7, _) => return properties(),
+        (_, 8, _) => return written(application()),
+        (_, _, count) => return written(texts(count)),
+    };
+    plain.unwrap()
+}
+
+/// Reads a type by hand.
+#[inline(never)]
+fn read_by_hand<T: Typed>(bytes: &[u8]) -> u64 {
+    u64::from(black_box(typed::from_slice::<T>(black_box(bytes))).is_ok())
+}
+
+/// How many values of a type are read.
+fn reads(who: &str, index: usize, times: u64) -> u64 {
+    let bytes = read_bytes(index);
+    let kind = READS[index].1;
+    if who == "project" {
+        return unsafe { amqp_read(kind, bytes.as_ptr(), bytes.len(), times) };
+    }
+    let read = match kind {
+        0 => read_by_hand::<typed::Attach>,
+        1 => read_by_hand::<Vec<i32>>,
+        2 => read_by_hand::<Vec<Vec<i32>>>,
+        3 => read_by_hand::<Vec<String>>,
+        4 => read_by_hand::<typed::Array<u32>>,
+        5 => read_by_hand::<BTreeMap<u32, u32>>,
+        6 => read_by_hand::<typed::Header>,
+        7 => read_by_hand::<typed::Properties>,
+        8 => read_by_hand::<typed::Texts<Value>>,
+        _ => read_by_hand::<typed::Texts<u32>>,
+    };
+    (0..times).map(|_| read(&bytes)).sum()
 }
 
 /// The map from each number below `count` to itself.
@@ -331,14 +462,8 @@ fn answer(who: Who, shape: usize, op: u32, times: u64) -> u64 {
         Rule(2) => repeat(who, &(0..1000).map(|i| ints(i, 10)).collect::<Vec<_>>(), op, times),
         Rule(3) => repeat(who, &(0..255).fold(Chain::End, |c, _| Chain::Link(Box::new(c))), op, times),
         Rule(4) => repeat(who, &Blob(vec![0x5a; 65536]), op, times),
-        Data(0) => {
-            let text = String::from_utf8(data(0)).unwrap();
-            repeat(who, &text.split('\n').map(String::from).collect::<Vec<_>>(), op, times)
-        }
-        Data(1) => {
-            let numbers = data(1).chunks(4).map(|c| u32::from_be_bytes(c.try_into().unwrap())).collect();
-            repeat(who, &Array(numbers), op, times)
-        }
+        Data(0) => repeat(who, &lines(), op, times),
+        Data(1) => repeat(who, &Array(numbers()), op, times),
         Rule(5) => untyped(who, numbered(1000), op, times),
         Rule(6) => untyped(who, numbered(10000), op, times),
         Rule(10) => untyped(who, message(), op, times),
@@ -455,6 +580,15 @@ fn main() {
             let read = unsafe { amqp_maps(number(2) as u32, number(3) as u32, number(4) as u32, number(5)) };
             assert_eq!(read, number(5), "the maps are not read");
         }
+        "reads" if words.len() < 4 => {
+            for (index, (name, ..)) in READS.iter().enumerate() {
+                for who in ["hand", "project"] {
+                    assert_eq!(reads(who, index, 1), 1, "{who} does not read {name}");
+                }
+                println!("{index} {} {name}", read_bytes(index).len());
+            }
+        }
+        "reads" => assert_eq!(reads(&words[2], number(3) as usize, number(4)), number(4)),
         "count" => {
             let (calls, bytes) = count(who(2), number(3) as usize, number(4) as u32);
             println!("{calls} {bytes}");

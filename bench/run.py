@@ -25,6 +25,8 @@ WHO = ['table', 'buffers', 'values', 'project']
 ALLOWED = 1.03
 # The kinds of keys of the maps that are read, their numbers of keys, and the calls.
 KINDS, COUNTS, READS = ['text', 'symbol', 'uuid'], [64, 130], ['`from_value`', '`TryFrom`']
+# Who reads a type from bytes: the library's call, and plain Rust, of whose instructions it takes at most so many times.
+FROM_SLICE, BY_HAND, MOST_READ = '`from_slice`', 'hand', 1.3
 # The part of a workload's rounds that is counted.
 PART = 20
 
@@ -101,6 +103,15 @@ def maps(plain):
             for kind, word in enumerate(KINDS) for count in COUNTS for op, read in enumerate(READS)}
 
 
+def reads(plain, who):
+    """The instructions of reading each type from bytes, by its name and who reads it."""
+    found = {}
+    for line in run([plain, 'reads']).splitlines():
+        index, _, name = line.split(' ', 2)
+        found[name, who] = round(instructions([plain, 'reads', 'project' if who == FROM_SLICE else who, index]))
+    return found
+
+
 def workloads(program):
     """The instructions of a part of the rounds of each workload, with the seed 1."""
     found = {}
@@ -143,7 +154,8 @@ def main():
     wraps = ['-C', 'link-arg=-Wl,--wrap=malloc,--wrap=realloc', '--cfg', 'count']
     counting = driver(folder, made, 'counting', wraps)
     if '--check' in sys.argv:
-        sys.exit(check(*answers(plain, counting, ['project']), {**maps(plain), **workloads(arg('--jobs') or jobs())}))
+        more = {**reads(plain, FROM_SLICE), **maps(plain), **workloads(arg('--jobs') or jobs())}
+        sys.exit(check(*answers(plain, counting, ['project']), more))
     names, size, found = answers(plain, counting, WHO)
     if '--no-time' not in sys.argv:
         for line in run([plain, 'time']).splitlines():
@@ -152,6 +164,7 @@ def main():
     show(names, size, found)
     if '--no-instructions' not in sys.argv:
         targets(names, found)
+        types(plain)
         others('Map', READS, maps(plain))
         others('Workload', ['instructions'], workloads(arg('--jobs') or jobs()))
 
@@ -190,7 +203,7 @@ def recorded():
     rows, heads = {}, None
     for line in open(os.path.join(HERE, 'README.md')):
         cells = [cell.strip() for cell in line.strip().strip('|').split('|')]
-        if cells[0] == 'Shape' and 'instructions: table' in cells or cells[0] in ['Map', 'Workload']:
+        if cells[0] == 'Shape' and 'instructions: table' in cells or cells[0] in ['Type', 'Map', 'Workload']:
             heads = cells
         elif not line.startswith('|'):
             heads = None
@@ -198,7 +211,7 @@ def recorded():
             calls, asked = cells[-1].strip(')').split(' (')
             rows[cells[0], cells[2]] = (int(cells[heads.index('project')]), int(calls), int(asked))
         elif heads and heads[0] != 'Shape' and cells[1].isdigit():
-            rows.update({(cells[0], head): (int(cell),) for head, cell in zip(heads[1:], cells[1:])})
+            rows.update({(cells[0], head): (int(cell),) for head, cell in zip(heads[1:], cells[1:]) if cell.isdigit()})
     return rows
 
 
@@ -228,6 +241,18 @@ def others(what, heads, found):
     heading([what] + heads)
     for name in dict.fromkeys(name for name, _ in found):
         print(line_of([name] + [str(found[name, head]) for head in heads]))
+
+
+def types(plain):
+    """Prints what reading each type from bytes takes, with the misses in bold."""
+    found = {**reads(plain, BY_HAND), **reads(plain, FROM_SLICE)}
+    print()
+    heading(['Type', 'Bytes', BY_HAND, FROM_SLICE, '%s / hand' % FROM_SLICE])
+    for line in run([plain, 'reads']).splitlines():
+        _, length, name = line.split(' ', 2)
+        counts = [found[name, who] for who in (BY_HAND, FROM_SLICE)]
+        ratio = '%.2f' % (counts[1] / counts[0])
+        print(line_of([name, length] + ['%d' % count for count in counts] + [ratio if float(ratio) <= MOST_READ else '**%s**' % ratio]))
 
 
 def show(names, size, found):

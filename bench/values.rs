@@ -5,6 +5,7 @@
 
 pub mod bytes;
 mod text;
+pub mod typed;
 
 use std::mem::{forget, replace, take};
 
@@ -69,7 +70,7 @@ impl<T: Part> Drop for Parts<T> {
     }
 }
 
-struct Input<'a>(&'a [u8]);
+pub struct Input<'a>(&'a [u8]);
 
 impl<'a> Input<'a> {
     #[inline(always)]
@@ -115,10 +116,17 @@ pub fn decode(bytes: &[u8]) -> Result<Value> {
     Ok(value)
 }
 
-/// Reads a value and hands it on, each kind by itself, so that it is made in its place.
+/// Reads a value and hands it on.
 #[inline(always)]
 fn next(input: &mut Input, depth: u32, put: impl FnOnce(Value)) -> Result<()> {
-    match input.byte()? {
+    let code = input.byte()?;
+    after_code(code, input, depth, put)
+}
+
+/// Reads what follows the code, each kind by itself, so that the value is made in its place.
+#[inline(always)]
+fn after_code(code: u8, input: &mut Input, depth: u32, put: impl FnOnce(Value)) -> Result<()> {
+    match code {
         0x40 => put(Null),
         0x41 => put(Bool(true)),
         0x42 => put(Bool(false)),

@@ -126,6 +126,14 @@ def read_bytes(t):
     return read_encoded(t, build(t, f"{reader(t, call)}::<{t.name}, _>(alloc, code, input, depth, {said}{seed(t)})"), method)
 
 
+def read_map_bytes(t):
+    """The method that reads a map without defaults from its bytes, without a descriptor or with a code."""
+    if not t.fields or t.descriptor() and not t.code or any(f.default for f in t.fields):
+        return ""
+    call, said = ("build_composite_map_encoded", f"{t.code}, ") if t.code else ("build_fields_map_encoded", "")
+    return read_encoded(t, build(t, f"{call}::<{t.name}, _>(alloc, code, input, depth, {said}{seed(t)})"))
+
+
 def composite(t):
     """The impls of Composite and Deserialize of a type that is read after its code or its name."""
     image, others = members(t)
@@ -163,7 +171,7 @@ def deserialize(t):
     said = f'{t.code}u64, ' if t.code else f'"{t.symbol}", ' if t.symbol else ""
     out += f"    fn deserialize<D: Deserializer>(alloc: Global, deserializer: D) -> Result<{t.name}, D::Error> {{\n"
     out += build(t, f"{reader(t, call)}::<{t.name}, D, _>(alloc, deserializer, {said}{seed(t)})") + "    }\n"
-    return out + ("" if t.encoding == "map" else read_bytes(t)) + "}\n"
+    return out + (read_map_bytes(t) if t.encoding == "map" else read_bytes(t)) + "}\n"
 
 
 def round_trip(t):

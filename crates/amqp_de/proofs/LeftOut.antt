@@ -43,10 +43,10 @@ entries ns fs es t e f = let same : pairs_of es ≡ pairs_of (present_fields ns 
 itself : (n : List ℕ) → bytes_eq n n ≡ true
 itself n = nat_list_eq_equiv.refl n
 
-first_value : (n : List ℕ) (t : Tree) (es : List (Tree × Tree)) → value_at n ((scalar (string n), t) ∷ es) ≡ Some t
+pub first_value : (n : List ℕ) (t : Tree) (es : List (Tree × Tree)) → value_at n ((scalar (string n), t) ∷ es) ≡ Some t
 first_value n t es = ap (λ (b : Bool). if b then Some t else value_at n es) (itself n)
 
-first_without : (n : List ℕ) (t : Tree) (es : List (Tree × Tree)) → without n ((scalar (string n), t) ∷ es) ≡ es
+pub first_without : (n : List ℕ) (t : Tree) (es : List (Tree × Tree)) → without n ((scalar (string n), t) ∷ es) ≡ es
 first_without n t es = ap (λ (b : Bool). if b then es else (scalar (string n), t) ∷ without n es) (itself n)
 
 pub or_false : (a b : Bool) → (a || b) ≡ false → (a ≡ false) × (b ≡ false)
@@ -67,7 +67,7 @@ module _ (n : List ℕ) where
   no_value_by m true t es d e = ap (λ (b : Bool). if b then Some t else value_at n es) d ∙ e
   no_value_by m false t es d e = e
 
-  no_value : (ns : List (List ℕ)) (fs : List (Bool × Tree)) → has_name n ns ≡ false → value_at n (present_fields ns fs) ≡ None
+  pub no_value : (ns : List (List ℕ)) (fs : List (Bool × Tree)) → has_name n ns ≡ false → value_at n (present_fields ns fs) ≡ None
   no_value [] fs e = refl
   no_value (m ∷ ns) [] e = refl
   no_value (m ∷ ns) (f ∷ fs) e = let both = or_false (bytes_eq m n) (has_name n ns) e in
@@ -79,7 +79,7 @@ module _ (n : List ℕ) where
       ap (λ (b : Bool). if b then es else (scalar (string m), t) ∷ without n es) d ∙ ap (λ (r : List (Tree × Tree)). (scalar (string m), t) ∷ r) e
   all_left_by m false t es d e = e
 
-  all_left : (ns : List (List ℕ)) (fs : List (Bool × Tree)) → has_name n ns ≡ false → without n (present_fields ns fs) ≡ present_fields ns fs
+  pub all_left : (ns : List (List ℕ)) (fs : List (Bool × Tree)) → has_name n ns ≡ false → without n (present_fields ns fs) ≡ present_fields ns fs
   all_left [] fs e = refl
   all_left (m ∷ ns) [] e = refl
   all_left (m ∷ ns) (f ∷ fs) e = let both = or_false (bytes_eq m n) (has_name n ns) e in

@@ -10,6 +10,7 @@ pub mod Readings
 pub mod MapReadings
 pub mod Chunks
 pub mod FieldLemmas
+pub mod NamedFillings
 pub mod OtherCodes
 pub mod MultipleRefused
 pub mod LazyRefused

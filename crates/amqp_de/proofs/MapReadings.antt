@@ -37,7 +37,7 @@ module _ (k v : Tree) (e : Tree × Tree) (es : List (Tree × Tree)) (rest : pair
   present_or_not true = refl
   present_or_not false = ap (pair e.0 e.1) rest
 
-pairs_inserted : (es : List (Tree × Tree)) (k v : Tree) → pairs_of (insert_pair same_tree es k v) ≡ insert_tree (pairs_of es) k v
+pub pairs_inserted : (es : List (Tree × Tree)) (k v : Tree) → pairs_of (insert_pair same_tree es k v) ≡ insert_tree (pairs_of es) k v
 pairs_inserted [] k v = refl
 pairs_inserted (e ∷ es) k v = present_or_not k v e es (pairs_inserted es k v) (same_tree k e.0)
 

@@ -13,7 +13,7 @@ ghost use Rattle.amqp_de.specs.Answers.{Answers, Restores};
 
 use crate::deserialize_error::DeserializeError;
 use crate::deserializer::Deserializer;
-use crate::room::push_item;
+use crate::room::{first_item, push_item};
 use amqp_decode::prefix::{GaveUp, split_byte};
 use std::alloc::Global;
 
@@ -78,13 +78,22 @@ pub trait Deserialize: Sized + Drop {
         ensures { IfOk result (λ v. Fills (Reading reads image restorable same)
             (parse (suc depth)) count body.now v.items) }
     {
-        let mut items = Vec::new(alloc);
-        let mut rest = body;
-        for read in 0..count {
+        if count == 0 {
+            return if body.is_empty() {
+                Ok(Vec::new(alloc))
+            } else {
+                Err(GaveUp)
+            };
+        }
+        let (code, after) = split_byte(body)?;
+        let mut rest = after;
+        let first = Self::read_encoded(alloc, code, &mut rest, depth)?;
+        let mut items = first_item(alloc, first, count, body)?;
+        for read in 1..count {
             let (code, after) = split_byte(rest)?;
             rest = after;
             let item = Self::read_encoded(alloc, code, &mut rest, depth)?;
-            push_item(&mut items, item, count, body)?;
+            items.push(item)?;
         }
         if rest.is_empty() {
             Ok(items)

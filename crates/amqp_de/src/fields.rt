@@ -1,9 +1,10 @@
 //! The fields of a struct that are read in one call.
 
-ghost use Rattle.std.specs.Prelude.{◌≡◌, ℕ, List, [], ◌∷◌, Bool, true, MatchResult, IfOk, suc};
+ghost use Rattle.std.specs.Prelude.{◌≡◌, ℕ, List, [], ◌∷◌, Bool, true, MatchResult, IfOk, IfSome, Some, suc};
 ghost use Rattle.amqp_decode.specs.Parsed.{parse};
 ghost use Rattle.amqp_de.specs.Encoded.{FieldsFill};
-ghost use Rattle.amqp_ser.specs.Tree.{Tree};
+ghost use Rattle.amqp_de.specs.EncodedMaps.{NamedFieldsFill};
+ghost use Rattle.amqp_ser.specs.Tree.{Tree, scalar, string};
 ghost use Rattle.amqp_de.specs.Answers.{Answers};
 ghost use Rattle.amqp_de.specs.Fields.{FieldSource, by_position, by_name, ReadsRequired, ReadsOptional, NoMoreFields};
 ghost use Rattle.amqp_de.specs.Present.{EndsEarly, required, optional, present_fields, distinct_names};
@@ -12,7 +13,7 @@ ghost use Rattle.amqp_de.specs.Reads.{Always, RestorableOption, SameOption};
 use crate::deserialize::Deserialize;
 use crate::deserialize_error::DeserializeError;
 use crate::deserializer::Deserializer;
-use amqp_decode::prefix::{GaveUp, split_byte};
+use amqp_decode::prefix::{GaveUp, split_byte, split_string};
 use std::alloc::Global;
 use std::marker::PhantomData;
 
@@ -101,6 +102,45 @@ pub trait FieldSeeds: Sized + Drop {
     {
         Err(GaveUp)
     }
+
+    /// Reads the fields from `count` encoded keys and values that fill the body of a map. Gives up
+    /// if a key is not the name of a field, or if the keys are not in the order of the fields.
+    ///
+    /// The provided method gives up.
+    ///
+    /// # Errors
+    /// Returns `GaveUp` as `Deserialize::read_encoded` does.
+    fn read_named_fields(
+        &self,
+        alloc: Global,
+        count: u32,
+        body: &[u8],
+        depth: u16,
+    ) -> Result<Self::Values, GaveUp>
+        ensures { IfOk result (λ v. NamedFieldsFill (reads self.now) (names self.now) images restorable
+            same (parse (suc depth)) count body.now v) }
+    {
+        Err(GaveUp)
+    }
+}
+
+// Returns the bytes after the key if the first of `count` encoded keys is this name.
+#[inline(always)]
+fn split_name<'a>(name: &str, count: u32, body: &'a [u8]) -> Option<&'a [u8]>
+    ensures some { IfSome result (λ _. count ≡ 0 → ⊥) }
+    ensures key { IfSome result (λ rest. (d : ℕ) →
+        parse (suc d) body.now ≡ Some (scalar (string name.now), rest.now)) }
+{
+    if count == 0 {
+        return None;
+    }
+    let Ok((code, after)) = split_byte(body) else {
+        return None;
+    };
+    let Ok((text, rest)) = split_string(code, after) else {
+        return None;
+    };
+    if *text == *name { Some(rest) } else { None }
 }
 
 #[tactic(auto, unfolding(crate::specs::Fields::NoMoreFields))]
@@ -135,6 +175,21 @@ impl FieldSeeds for () {
 
     #[inline(always)]
     fn read_fields(
+        &self,
+        _alloc: Global,
+        count: u32,
+        body: &[u8],
+        _depth: u16,
+    ) -> Result<(), GaveUp> {
+        if count == 0 && body.is_empty() {
+            Ok(())
+        } else {
+            Err(GaveUp)
+        }
+    }
+
+    #[inline(always)]
+    fn read_named_fields(
         &self,
         _alloc: Global,
         count: u32,
@@ -234,6 +289,27 @@ impl<V: Deserialize, R: FieldSeeds> FieldSeeds for Required<V, R> {
             rest: others,
         })
     }
+
+    #[inline(always)]
+    fn read_named_fields(
+        &self,
+        alloc: Global,
+        count: u32,
+        body: &[u8],
+        depth: u16,
+    ) -> Result<FieldValues<V, R::Values>, GaveUp> {
+        let Some(after_key) = split_name(self.name, count, body) else {
+            return Err(GaveUp);
+        };
+        let (code, after) = split_byte(after_key)?;
+        let mut rest = after;
+        let value = V::read_encoded(alloc, code, &mut rest, depth)?;
+        let others = self.rest.read_named_fields(alloc, count - 1, rest, depth)?;
+        Ok(FieldValues {
+            value,
+            rest: others,
+        })
+    }
 }
 
 /// An optional field, which may be absent or null, and the fields after it.
@@ -311,6 +387,31 @@ impl<V: Deserialize, R: FieldSeeds> FieldSeeds for Optional<V, R> {
         let mut rest = after;
         let value = Option::<V>::read_encoded(alloc, code, &mut rest, depth)?;
         let others = self.rest.read_fields(alloc, count - 1, rest, depth)?;
+        Ok(FieldValues {
+            value,
+            rest: others,
+        })
+    }
+
+    #[inline(always)]
+    fn read_named_fields(
+        &self,
+        alloc: Global,
+        count: u32,
+        body: &[u8],
+        depth: u16,
+    ) -> Result<FieldValues<Option<V>, R::Values>, GaveUp> {
+        let Some(after_key) = split_name(self.name, count, body) else {
+            let others = self.rest.read_named_fields(alloc, count, body, depth)?;
+            return Ok(FieldValues {
+                value: None,
+                rest: others,
+            });
+        };
+        let (code, after) = split_byte(after_key)?;
+        let mut rest = after;
+        let value = Option::<V>::read_encoded(alloc, code, &mut rest, depth)?;
+        let others = self.rest.read_named_fields(alloc, count - 1, rest, depth)?;
         Ok(FieldValues {
             value,
             rest: others,

@@ -19,6 +19,7 @@ mod fields;
 mod fixed_content;
 mod impls;
 pub mod laws;
+mod maps_encoded;
 mod named_record;
 mod names;
 mod record;
@@ -46,6 +47,10 @@ pub use encoded::{
 };
 pub use enums::{DataVariant, Either, EnumSeed, Never, UnitVariant, Variants};
 pub use fields::{FieldSeeds, FieldValues, Optional, Required};
+pub use maps_encoded::{
+    build_composite_map_encoded, build_fields_map_encoded, read_composite_map_encoded,
+    read_fields_map_encoded,
+};
 pub use named_record::{NamedRecord, read_composite_map, read_fields_map, read_named_map};
 pub use record::{Describes, Record, read, read_described};
 pub use record_map::{read_described_map, read_map};

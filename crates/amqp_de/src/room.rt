@@ -1,8 +1,9 @@
 //! How much memory is reserved for values before they are read.
 
-ghost use Rattle.std.specs.Prelude.{◌≡◌, [], ◌∷◌, ◌++◌, OnOk};
+ghost use Rattle.std.specs.Prelude.{◌≡◌, [], ◌∷◌, ◌++◌, IfOk, OnOk};
 
 use amqp_decode::prefix::GaveUp;
+use std::alloc::Global;
 use std::mem::size_of_val;
 
 /// The maximum number of values for which room is reserved before they are read. A value may be larger
@@ -23,6 +24,27 @@ pub(crate) fn most_reserved(size: usize) -> usize {
         257..=512 => 8,
         _ => 4,
     }
+}
+
+/// Returns a vector of the first of `count` values that are read from encoded bytes, with memory for
+/// all of them, but for no more than there are bytes and than `most_reserved`.
+///
+/// # Errors
+/// Returns `GaveUp` if an allocation fails.
+#[inline(always)]
+pub(crate) fn first_item<T: Drop>(
+    alloc: Global,
+    item: T,
+    count: u32,
+    bytes: &[u8],
+) -> Result<Vec<T>, GaveUp>
+    ensures { IfOk result (λ v. v.items ≡ item ∷ []) }
+{
+    let mut items = Vec::new(alloc);
+    let most = most_reserved(size_of_val(&item));
+    items.reserve_exact((count as usize).min(bytes.len()).min(most))?;
+    items.push(item)?;
+    Ok(items)
 }
 
 /// Appends a value that was read from encoded bytes. Before the first value, reserves memory for

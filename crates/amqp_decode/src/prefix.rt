@@ -22,5 +22,5 @@ pub use scalars::{
     read_bool, read_char, read_decimal32, read_decimal64, read_decimal128, read_double, read_float,
     read_null, read_timestamp, read_uuid,
 };
-pub use texts::{read_binary, read_string, read_symbol};
+pub use texts::{read_binary, read_string, read_symbol, split_string};
 pub use values::{read_value_after_code, split_descriptor};

@@ -36,9 +36,10 @@ pub struct Shop {
 
 // amqp: the impls below are written by tools/derive from the annotations above
 use serde_amqp::derive::{
-    Defaulted, Deserialize, Deserializer, FieldSeeds, FieldValues, FromParts, Global, MapOf, Name,
-    NamedRecord, Optional, Record, Required, RoundTrip, Serialize, SerializeCompounds, Serializer,
-    build_composite_map, build_fields_map, build_named_map, fields, laws, named,
+    Defaulted, Deserialize, Deserializer, FieldSeeds, FieldValues, FromParts, GaveUp, Global,
+    MapOf, Name, NamedRecord, Optional, Record, Required, RoundTrip, Serialize, SerializeCompounds,
+    Serializer, build_composite_map, build_fields_map, build_fields_map_encoded, build_named_map,
+    fields, laws, named,
 };
 
 impl Serialize for Product {
@@ -249,6 +250,21 @@ impl Deserialize for Contact {
 
     fn deserialize<D: Deserializer>(alloc: Global, deserializer: D) -> Result<Contact, D::Error> {
         build_fields_map::<Contact, D, _>(alloc, deserializer, named! { "name", "telephone"? })
+    }
+
+    fn read_encoded(
+        alloc: Global,
+        code: u8,
+        input: &mut &[u8],
+        depth: u16,
+    ) -> Result<Contact, GaveUp> {
+        build_fields_map_encoded::<Contact, _>(
+            alloc,
+            code,
+            input,
+            depth,
+            named! { "name", "telephone"? },
+        )
     }
 }
 

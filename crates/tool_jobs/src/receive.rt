@@ -1,6 +1,8 @@
 //! A receiver that takes the sections of messages off a reader and reads them as types. The body
 //! stays undecoded.
 
+pub mod typed;
+
 use crate::digest::Digest;
 use crate::long_forms::put_section;
 use crate::messages::Message;

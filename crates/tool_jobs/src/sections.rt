@@ -2,7 +2,8 @@
 
 use serde_amqp::Value;
 use serde_amqp::de::{
-    Deserialize, Deserializer, FieldValues, ListSeed, Record, named, read_described, values,
+    Deserialize, Deserializer, FieldValues, GaveUp, ListSeed, Record, named,
+    read_composite_encoded, read_described, values,
 };
 use serde_amqp::primitives::{ByteBuf, Symbol, Timestamp};
 use std::alloc::Global;
@@ -65,6 +66,26 @@ impl Deserialize for Header {
                 "durable"?, "priority"?, "ttl"?, "first-acquirer"?, "delivery-count"?
             }),
         )?;
+        Ok(Header {
+            durable,
+            priority,
+            ttl,
+            first_acquirer,
+            delivery_count,
+        })
+    }
+
+    fn read_encoded(
+        alloc: Global,
+        code: u8,
+        input: &mut &[u8],
+        depth: u16,
+    ) -> Result<Header, GaveUp> {
+        let seed = ListSeed(named! {
+            "durable"?, "priority"?, "ttl"?, "first-acquirer"?, "delivery-count"?
+        });
+        let values! { durable, priority, ttl, first_acquirer, delivery_count } =
+            read_composite_encoded::<Header, _>(alloc, code, input, depth, 0x70, seed)?;
         Ok(Header {
             durable,
             priority,
@@ -178,6 +199,34 @@ impl Deserialize for Properties {
                 "message-id"?, "user-id"?, "to"?, "subject"?, "reply-to"?, "correlation-id"?, "content-type"?, "content-encoding"?, "absolute-expiry-time"?, "creation-time"?, "group-id"?, "group-sequence"?, "reply-to-group-id"?
             }),
             )?;
+        Ok(Properties {
+            message_id,
+            user_id,
+            to,
+            subject,
+            reply_to,
+            correlation_id,
+            content_type,
+            content_encoding,
+            absolute_expiry_time,
+            creation_time,
+            group_id,
+            group_sequence,
+            reply_to_group_id,
+        })
+    }
+
+    fn read_encoded(
+        alloc: Global,
+        code: u8,
+        input: &mut &[u8],
+        depth: u16,
+    ) -> Result<Properties, GaveUp> {
+        let seed = ListSeed(named! {
+            "message-id"?, "user-id"?, "to"?, "subject"?, "reply-to"?, "correlation-id"?, "content-type"?, "content-encoding"?, "absolute-expiry-time"?, "creation-time"?, "group-id"?, "group-sequence"?, "reply-to-group-id"?
+        });
+        let values! { message_id, user_id, to, subject, reply_to, correlation_id, content_type, content_encoding, absolute_expiry_time, creation_time, group_id, group_sequence, reply_to_group_id } =
+            read_composite_encoded::<Properties, _>(alloc, code, input, depth, 0x73, seed)?;
         Ok(Properties {
             message_id,
             user_id,

@@ -83,6 +83,36 @@ pub fn read_string(alloc: Global, code: u8, bytes: &[u8]) -> Result<(String, &[u
     }
 }
 
+/// Reads a string, which is UTF-8, without copying it.
+///
+/// # Encoding
+/// The codes `a1` and `b1` (AMQP 1.0 part 1, section 1.6.20).
+///
+/// # Example
+/// For the code `a1` and the bytes `016140`, returns the text `a` and the rest `40`.
+#[inline(always)]
+pub fn split_string(code: u8, bytes: &[u8]) -> Result<(&str, &[u8]), GaveUp>
+    ensures { IfOk result (λ r. IsScalar (code ∷ bytes.now) r.1.now (string r.0.now)) }
+{
+    match code {
+        0xa1 => {
+            let (content, rest) = split_sized(false, bytes)?;
+            match std::str::from_utf8(content) {
+                Ok(text) => Ok((text, rest)),
+                Err(_) => Err(GaveUp),
+            }
+        }
+        0xb1 => {
+            let (content, rest) = split_sized(true, bytes)?;
+            match std::str::from_utf8(content) {
+                Ok(text) => Ok((text, rest)),
+                Err(_) => Err(GaveUp),
+            }
+        }
+        _ => Err(GaveUp),
+    }
+}
+
 /// Reads a symbol, which is read as UTF-8.
 ///
 /// # Encoding
