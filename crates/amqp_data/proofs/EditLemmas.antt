@@ -1,8 +1,9 @@
 -- Look-up by a test of the keys; removal and change of a key, by its position in the list.
-use Rattle.std.proofs.Common.{◌≡◌, refl, ℕ, zero, suc, Bool, true, false, cond, List, [], ◌∷◌, ◌++◌, get_or, slice_set, remove, position, Some, None, sym, ap, ◌∙◌, arith}
+use Rattle.std.proofs.Common.{◌≡◌, refl, ℕ, zero, suc, ◌<◌, ◌≤◌, Bool, true, false, cond, length, slice_get, option_map, List, [], ◌∷◌, ◌++◌, get_or, slice_set, remove, position, Some, None, sym, ap, ◌∙◌, arith}
 use Rattle.std.proofs.lemmas.List.Quantifiers.{position-Some}
 use Rattle.std.specs.List.{items_where_true}
 use Rattle.std.specs.Map.{keys_of, lookup, remove_entry, set_value}
+use Rattle.amqp_data.specs.MapLends.{with_value_at}
 use Rattle.amqp_data.specs.Pairs.{LacksKey, AreDistinct, insert_pair, insert_pairs}
 use Rattle.amqp_data.proofs.PairLemmas.{IsFirst, insert_pairs_push, lookup_found, lookup_none, tail_first}
 use Rattle.amqp_data.proofs.Searches.{AllFail, fail_by_position}
@@ -50,6 +51,29 @@ module _ {K V : Type 0} (test : K → Bool) where
   pub lookup_by_found : (es : List (K × V)) (i : ℕ) (e : K × V) → Some i ≡ position (λ x. test x.0) es → e ≡ get_or es i e
       → Some e.1 ≡ lookup test es
   lookup_by_found es i e found is = lookup_found (λ (_ k : K). test k) e.0 es i e found is
+
+  -- changing the value at the position of the first key that passes the test
+  pub set_by_found : (es : List (K × V)) (v : V) (i : ℕ) (e : K × V) → Some i ≡ position (λ x. test x.0) es → e ≡ get_or es i e
+      → slice_set es i (e.0, v) ≡ set_value test es v
+  set_by_found es v i e found is = set_found (λ (_ k : K). test k) e.0 es v i e found is
+
+module _ {K V : Type 0} where
+  -- changing the value at a position changes that entry alone
+  pub set_at : (es : List (K × V)) (v : V) (i : ℕ) (e : K × V) → e ≡ get_or es i e → slice_set es i (e.0, v) ≡ with_value_at es i v
+  set_at [] v i e is = refl
+  set_at (x ∷ es) v zero e is = ap (λ y. (y.0, v) ∷ es) is
+  set_at (x ∷ es) v (suc i) e is = ap (λ r. x ∷ r) (set_at es v i e is)
+
+  -- the value at a position, and that there is none past the end
+  pub value_at : (es : List (K × V)) (i : ℕ) (e : K × V) → i < length es → e ≡ get_or es i e → Some e.1 ≡ option_map (λ x. x.1) (slice_get es i)
+  value_at [] i e lt is = absurd (omega arith)
+  value_at (x ∷ es) zero e lt is = ap (λ y. Some y.1) is
+  value_at (x ∷ es) (suc i) e lt is = value_at es i e (omega arith) is
+
+  pub no_value_at : (es : List (K × V)) (i : ℕ) → length es ≤ i → None ≡ option_map (λ x. x.1) (slice_get es i)
+  no_value_at [] i le = refl
+  no_value_at (x ∷ es) zero le = absurd (omega arith)
+  no_value_at (x ∷ es) (suc i) le = no_value_at es i (omega arith)
 
 module _ {K V : Type 0} (eq : K → K → Bool) (test : K → Bool) where
   lacks_step : (x : K) (b : Bool) (e : K × V) (es : List (K × V)) → test e.0 ≡ b → LacksKey eq x (keys_of (e ∷ es))

@@ -1,15 +1,17 @@
 //! Calls that lend the values of a map to be changed.
 
-ghost use Rattle.std.specs.Prelude.{◌≡◌, ◌<◌, ◌^◌, length};
+ghost use Rattle.std.specs.Prelude.{◌≡◌, ◌<◌, ◌^◌, length, option_map, slice_get};
 ghost use Rattle.std.specs.Borrow.{sem};
 ghost use Rattle.std.specs.Iterator.{YieldsFirstBy, item_count};
 ghost use Rattle.std.specs.Map.{lookup, values_of};
 ghost use Rattle.std.specs.Option.{option_copied_mut};
+ghost use Rattle.std.specs.Str.{bytes_eq};
 ghost use Rattle.amqp_data.specs.MapIters.{entries_to_lend, values_to_lend};
-ghost use Rattle.amqp_data.specs.MapLends.{lends_value};
+ghost use Rattle.amqp_data.specs.MapLends.{lends_value, lends_value_at};
 ghost use Rattle.amqp_data.specs.Pairs.{entries_of};
 
 use crate::ordered_map::OrderedMap;
+use std::convert::AsStr;
 use std::hash::Hash;
 use std::slice;
 
@@ -27,6 +29,45 @@ impl<K: Hash + Eq, V> OrderedMap<K, V> {
         match self.find(key) {
             Some(at) => Some(&mut self.entries[at].1),
             None => None,
+        }
+    }
+}
+
+impl<K: AsStr, V> OrderedMap<K, V> {
+    /// Returns a mutable reference to the value of the first key with this text. The keys are
+    /// searched in order, and no key is made.
+    ///
+    /// # Example
+    /// For the map from the symbol `a` to `true`, encoded as `c10502a3016141`,
+    /// `*map.get_str_mut("a")? = false` gives the map encoded as `c10502a3016142`.
+    pub fn get_str_mut(&mut self, text: &str) -> Option<&mut V>
+        ensures* writes_back { sem 𝓛 (lends_value K.row V.row
+            (λ key. bytes_eq (K.text key) text.now) self.entry result) }
+        ensures value { option_copied_mut result
+            ≡ lookup (λ key. bytes_eq (K.text key) text.now) (entries_of self.old) }
+    {
+        match self.find_str(text) {
+            Some(at) => Some(&mut self.entries[at].1),
+            None => None,
+        }
+    }
+}
+
+impl<K, V> OrderedMap<K, V> {
+    /// Returns a mutable reference to the value of the entry at a position, from 0.
+    ///
+    /// # Example
+    /// For the map encoded as `c10402500141`, `*map.value_at_mut(0)? = false` gives the map encoded
+    /// as `c10402500142`. `None` for the position 1.
+    pub fn value_at_mut(&mut self, at: usize) -> Option<&mut V>
+        ensures* writes_back { sem 𝓛 (lends_value_at K.row V.row at self.entry result) }
+        ensures value { option_copied_mut result
+            ≡ option_map (λ entry. entry.1) (slice_get (entries_of self.old) at) }
+    {
+        if at < self.entries.len() {
+            Some(&mut self.entries[at].1)
+        } else {
+            None
         }
     }
 }

@@ -47,7 +47,7 @@ impl<K: AsStr, V> OrderedMap<K, V> {
     }
 
     // Returns the position of the first key with this text.
-    fn find_str(&self, text: &str) -> Option<usize>
+    pub(super) fn find_str(&self, text: &str) -> Option<usize>
         ensures { result ≡ position (λ e. bytes_eq (K.text e.0) text.now) (entries_of self.now) }
     {
         self.entries
