@@ -2,8 +2,8 @@
 
 use serde_amqp::Value;
 use serde_amqp::de::{
-    Deserialize, Deserializer, FieldValues, GaveUp, ListSeed, Record, named,
-    read_composite_encoded, read_described, values,
+    Deserialize, Deserializer, FieldValues, FromParts, GaveUp, ListSeed, Record,
+    build_composite_encoded, named, read_described, values,
 };
 use serde_amqp::primitives::{ByteBuf, Symbol, Timestamp};
 use std::alloc::Global;
@@ -30,6 +30,35 @@ impl Record for Header {
     >;
 
     ghost parts = { λ h. h.durable ▸ h.priority ▸ h.ttl ▸ h.first_acquirer ▸ h.delivery_count ▸ tt };
+}
+
+impl FromParts for Header {
+    fn from_parts(parts: <Header as Record>::Values) -> Header {
+        let FieldValues {
+            value: durable,
+            rest,
+        } = parts;
+        let FieldValues {
+            value: priority,
+            rest,
+        } = rest;
+        let FieldValues { value: ttl, rest } = rest;
+        let FieldValues {
+            value: first_acquirer,
+            rest,
+        } = rest;
+        let FieldValues {
+            value: delivery_count,
+            rest: (),
+        } = rest;
+        Header {
+            durable,
+            priority,
+            ttl,
+            first_acquirer,
+            delivery_count,
+        }
+    }
 }
 
 impl Deserialize for Header {
@@ -84,15 +113,7 @@ impl Deserialize for Header {
         let seed = ListSeed(named! {
             "durable"?, "priority"?, "ttl"?, "first-acquirer"?, "delivery-count"?
         });
-        let values! { durable, priority, ttl, first_acquirer, delivery_count } =
-            read_composite_encoded::<Header, _>(alloc, code, input, depth, 0x70, seed)?;
-        Ok(Header {
-            durable,
-            priority,
-            ttl,
-            first_acquirer,
-            delivery_count,
-        })
+        build_composite_encoded::<Header, _>(alloc, code, input, depth, 0x70, seed)
     }
 }
 
@@ -156,6 +177,75 @@ impl Record for Properties {
     >;
 
     ghost parts = { λ p. p.message_id ▸ p.user_id ▸ p.to ▸ p.subject ▸ p.reply_to ▸ p.correlation_id ▸ p.content_type ▸ p.content_encoding ▸ p.absolute_expiry_time ▸ p.creation_time ▸ p.group_id ▸ p.group_sequence ▸ p.reply_to_group_id ▸ tt };
+}
+
+impl FromParts for Properties {
+    fn from_parts(parts: <Properties as Record>::Values) -> Properties {
+        let FieldValues {
+            value: message_id,
+            rest,
+        } = parts;
+        let FieldValues {
+            value: user_id,
+            rest,
+        } = rest;
+        let FieldValues { value: to, rest } = rest;
+        let FieldValues {
+            value: subject,
+            rest,
+        } = rest;
+        let FieldValues {
+            value: reply_to,
+            rest,
+        } = rest;
+        let FieldValues {
+            value: correlation_id,
+            rest,
+        } = rest;
+        let FieldValues {
+            value: content_type,
+            rest,
+        } = rest;
+        let FieldValues {
+            value: content_encoding,
+            rest,
+        } = rest;
+        let FieldValues {
+            value: absolute_expiry_time,
+            rest,
+        } = rest;
+        let FieldValues {
+            value: creation_time,
+            rest,
+        } = rest;
+        let FieldValues {
+            value: group_id,
+            rest,
+        } = rest;
+        let FieldValues {
+            value: group_sequence,
+            rest,
+        } = rest;
+        let FieldValues {
+            value: reply_to_group_id,
+            rest: (),
+        } = rest;
+        Properties {
+            message_id,
+            user_id,
+            to,
+            subject,
+            reply_to,
+            correlation_id,
+            content_type,
+            content_encoding,
+            absolute_expiry_time,
+            creation_time,
+            group_id,
+            group_sequence,
+            reply_to_group_id,
+        }
+    }
 }
 
 impl Deserialize for Properties {
@@ -225,22 +315,6 @@ impl Deserialize for Properties {
         let seed = ListSeed(named! {
             "message-id"?, "user-id"?, "to"?, "subject"?, "reply-to"?, "correlation-id"?, "content-type"?, "content-encoding"?, "absolute-expiry-time"?, "creation-time"?, "group-id"?, "group-sequence"?, "reply-to-group-id"?
         });
-        let values! { message_id, user_id, to, subject, reply_to, correlation_id, content_type, content_encoding, absolute_expiry_time, creation_time, group_id, group_sequence, reply_to_group_id } =
-            read_composite_encoded::<Properties, _>(alloc, code, input, depth, 0x73, seed)?;
-        Ok(Properties {
-            message_id,
-            user_id,
-            to,
-            subject,
-            reply_to,
-            correlation_id,
-            content_type,
-            content_encoding,
-            absolute_expiry_time,
-            creation_time,
-            group_id,
-            group_sequence,
-            reply_to_group_id,
-        })
+        build_composite_encoded::<Properties, _>(alloc, code, input, depth, 0x73, seed)
     }
 }

@@ -153,6 +153,26 @@ fn maps_are_read_by_the_names(rt: HostRuntime) -> Result<(), Fail> {
 }
 
 #[test]
+fn maps_in_the_order_of_the_names_are_read_in_one_pass(rt: HostRuntime) -> Result<(), Fail> {
+    let a = rt.alloc();
+    let one = b"\xc1\x0a\x02\xa1\x04name\xa1\x01A";
+    let both = b"\xc1\x18\x04\xa1\x04name\xa1\x01A\xa1\x09telephone\xa1\x011";
+    assert!(rt; gives_at_once::<Contact>(a, one, one)? && gives_at_once::<Contact>(a, both, both)?);
+    let long = b"\xd1\0\0\0\x10\0\0\0\x02\xb1\0\0\0\x04name\xa1\x01A";
+    let null = b"\xc1\x16\x04\xa1\x04name\xa1\x01A\xa1\x09telephone\x40";
+    assert!(rt; gives_at_once::<Contact>(a, long, one)? && gives_at_once::<Contact>(a, null, one)?);
+    assert!(rt; gives::<Contact>(a, long, one)? && gives::<Contact>(a, null, one)?);
+    let turned = b"\xc1\x18\x04\xa1\x09telephone\xa1\x011\xa1\x04name\xa1\x01A";
+    let twice = b"\xc1\x13\x04\xa1\x04name\xa1\x01A\xa1\x04name\xa1\x01B";
+    assert!(rt; gives::<Contact>(a, turned, both)? && !gives_at_once::<Contact>(a, turned, both)?);
+    assert!(rt;
+        !gives_at_once::<Contact>(a, twice, one)? && !gives_at_once::<Contact>(a, b"\x45", one)?
+    );
+    assert!(rt; !gives_at_once::<Contact>(a, b"\xc1\x01\x00", one)?);
+    Ok(())
+}
+
+#[test]
 fn several_values_and_defaults(rt: HostRuntime) -> Result<(), Fail> {
     let a = rt.alloc();
     let absent = b"\x00\x53\x19\xc0\x05\x02\x40\x60\xff\xff";
