@@ -20,3 +20,4 @@ pub mod DefaultedReadings
 pub mod CompositeReadings
 pub mod DescriptorReadings
 pub mod ReadingLaws
+pub mod ErrorLemmas

@@ -1,6 +1,6 @@
 -- The events that are reported to a visitor, and the trees that each event reports
 -- (AMQP 1.0 part 1, section 1.6).
-use Rattle.std.specs.Prelude.{◌≡◌, ◌≢◌, ◌⊎◌, ◌||◌, ℕ, ℤ, Bool, true, false, List, [], ◌∷◌, Option, Some, None, Result, MatchResult, bytes_eq, codes, string_bytes}
+use Rattle.std.specs.Prelude.{◌≡◌, ◌≢◌, ◌⊎◌, ◌||◌, ℕ, ℤ, Bool, true, false, List, [], ◌∷◌, Option, Some, None, Result, MatchResult, bytes_eq, codes, string_bytes, if◌then◌else◌}
 use Rattle.amqp_data.specs.Fixed.{f32_bits, f64_bits}
 use Rattle.amqp_data.specs.Items.{byte_buf_bytes}
 use Rattle.amqp_ser.specs.Tree as tree
@@ -8,6 +8,7 @@ use Rattle.amqp_ser.specs.Tree.{Tree, Trees, Pairs, Scalar, Descriptor, scalar, 
 use Rattle.amqp_ser.specs.declared.marker.Marker.{Marker}
 use Rattle.amqp_ser.specs.declared.marker.Marker.TheVariants as marker
 use Rattle.amqp_ser.specs.Encoding.{encoding}
+use Rattle.amqp_ser.specs.Marked.{marker_of}
 use Rattle.amqp_ser.specs.Structs.{is_basic_name, is_list_name, is_map_name}
 use Rattle.amqp_ser.specs.Writable.{writable}
 use Rattle.amqp_value.specs.FormatCode.{code_of_kind}
@@ -184,6 +185,11 @@ module _ {T : Type 0} (G : Event → T → Type 0) where
   ByMarker marker.Transparent = ByNewtype
   ByMarker marker.Lazy = ByWritten
   ByMarker marker.Other = ByNewtype
+
+-- The marker that the name of a newtype denotes when it is read. A borrowed symbol is never read, so
+-- `SYMBOL_REF` is a name like any other.
+abbrev pub read_marker : List ℕ → Marker
+read_marker n = if bytes_eq n (codes "__SYMBOL_REF") then marker.Other else marker_of n
 
 -- Whether a tree is the index of a variant: a uint or a symbol.
 abbrev pub is_index_scalar : Scalar → Bool

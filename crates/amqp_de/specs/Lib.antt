@@ -16,5 +16,6 @@ pub mod Multiple
 pub mod Composites
 pub mod Access
 pub mod Events
+pub mod Accepted
 pub mod Readings
 pub mod Encoded

@@ -2,9 +2,10 @@
 
 ghost use Rattle.std.specs.Prelude.{◌≡◌};
 ghost use Rattle.amqp_ser.specs.Marked.{is_descriptor_name, is_value_name};
-ghost use Rattle.amqp_de.specs.Events.{is_array_name, is_described_name};
+ghost use Rattle.amqp_de.specs.Events.{is_array_name, is_described_name, read_marker};
 
 use amqp_data::markers;
+use amqp_ser::{Marker, marker_named};
 
 /// Returns `true` if and only if a struct of this name is read from a described value.
 ///
@@ -47,4 +48,20 @@ pub fn is_descriptor_name(name: &str) -> bool
     ensures { result ≡ is_descriptor_name name.now }
 {
     name == markers::DESCRIPTOR
+}
+
+/// Returns the marker that the name of a newtype denotes when it is read.
+///
+/// A borrowed symbol is never read, so `SYMBOL_REF` is a name like any other.
+///
+/// # Example
+/// `Marker::Symbol` for `SYMBOL`, `Marker::Other` for `SYMBOL_REF` and for `Celsius`.
+pub fn marker_read(name: &str) -> Marker
+    ensures { result ≡ read_marker name.now }
+{
+    if name == markers::SYMBOL_REF {
+        Marker::Other
+    } else {
+        marker_named(name)
+    }
 }

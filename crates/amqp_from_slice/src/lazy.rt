@@ -1,7 +1,9 @@
 //! Reading a type from a lazy value.
 
-ghost use Rattle.std.specs.Prelude.{◌≡◌, MatchResult};
+ghost use Rattle.std.specs.Prelude.{◌≡◌, IfErr, MatchResult};
 ghost use Rattle.amqp_data.specs.declared.error.Error.TheVariants.{OutOfMemory};
+ghost use Rattle.amqp_ser.specs.Tree.{Tree};
+ghost use Rattle.amqp_decode.specs.Faults.{DecodeFails};
 ghost use Rattle.amqp_decode.specs.Spells.{Spells};
 ghost use Rattle.amqp_de.specs.Answers.{Answers};
 ghost use Rattle.amqp_from_slice.specs.ReadsSpelled.{ReadsSpelled};
@@ -32,6 +34,8 @@ impl ReadLazy for LazyValue {
         ensures read { Answers (λ e. e ≡ OutOfMemory) (ReadsSpelled T.reads self.now) result }
         ensures law { (x : T) → T.restorable x → Spells 256 self.now (T.image x) →
             MatchResult result (λ y. T.same y x) (λ e. e ≡ OutOfMemory) }
+        ensures fault { ((t : Tree) → ¬ Spells 256 self.now t) →
+            IfErr result (DecodeFails 256 self.now) }
     {
         from_slice(alloc, self.as_slice())
     }

@@ -1,7 +1,9 @@
 //! Reading a type from the bytes of one encoded value.
 
-ghost use Rattle.std.specs.Prelude.{◌≡◌, IfSome, MatchResult};
+ghost use Rattle.std.specs.Prelude.{◌≡◌, IfErr, IfSome, MatchResult};
 ghost use Rattle.amqp_data.specs.declared.error.Error.TheVariants.{OutOfMemory};
+ghost use Rattle.amqp_ser.specs.Tree.{Tree};
+ghost use Rattle.amqp_decode.specs.Faults.{DecodeFails};
 ghost use Rattle.amqp_decode.specs.Spells.{Spells};
 ghost use Rattle.amqp_de.specs.Answers.{Answers};
 ghost use Rattle.amqp_de.specs.Encoded.{Reading};
@@ -38,6 +40,8 @@ pub fn from_slice<T: Deserialize>(alloc: Global, bytes: &[u8]) -> Result<T, Erro
     ensures read { Answers (λ e. e ≡ OutOfMemory) (ReadsSpelled T.reads bytes.now) result }
     ensures law { (x : T) → T.restorable x → Spells 256 bytes.now (T.image x) →
         MatchResult result (λ y. T.same y x) (λ e. e ≡ OutOfMemory) }
+    ensures fault { ((t : Tree) → ¬ Spells 256 bytes.now t) →
+        IfErr result (DecodeFails 256 bytes.now) }
 {
     match read_at_once::<T>(alloc, bytes) {
         Some(read) => Ok(read),
@@ -67,6 +71,8 @@ fn read_by_value<T: Deserialize>(alloc: Global, bytes: &[u8]) -> Result<T, Error
     ensures read { Answers (λ e. e ≡ OutOfMemory) (ReadsSpelled T.reads bytes.now) result }
     ensures law { (x : T) → T.restorable x → Spells 256 bytes.now (T.image x) →
         MatchResult result (λ y. T.same y x) (λ e. e ≡ OutOfMemory) }
+    ensures fault { ((t : Tree) → ¬ Spells 256 bytes.now t) →
+        IfErr result (DecodeFails 256 bytes.now) }
 {
     match decode_value(alloc, bytes) {
         Ok(value) => match from_value::<T>(alloc, value) {

@@ -63,9 +63,9 @@ pub trait TryFromSerializable: Sized {
         ensures { gives (T.tree value.now) result };
 }
 
-/// Like `to_value`.
+/// Like `to_value`. The result is sound.
 impl TryFromSerializable for Value {
-    ghost gives = { IsImageOf };
+    ghost gives = { λ t r. IsImageOf t r × IfOk r IsSound };
 
     fn try_from_serializable<T: Serialize>(alloc: Global, value: &T) -> Result<Value, Error> {
         to_value(alloc, value)

@@ -77,7 +77,10 @@ pub fn marked_fixed(pending: PendingMarker, fixed: Fixed) -> Result<Value, Error
 /// `a` gives a `Value::Symbol` under `Marker::Symbol`, and a `Value::String` under `Marker::Other`.
 #[inline(always)]
 pub fn marked_text(alloc: Global, pending: PendingMarker, text: &str) -> Result<Value, Error>
-    ensures { IsOpenedImage (meant pending (Some (scalar (string text.now)))) result }
+    ensures image { IsOpenedImage (meant pending (Some (scalar (string text.now)))) result }
+    ensures invalid { ¬ (pending ≡ PendingMarker.Marker Marker.Other) →
+        ¬ (pending ≡ PendingMarker.Marker Marker.Symbol) →
+        IfErr result (λ e. e ≡ Error.InvalidValue) }
 {
     match pending {
         PendingMarker::Marker(Marker::Other) => Ok(Value::String(String::from_str(alloc, text)?)),

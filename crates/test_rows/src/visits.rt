@@ -16,7 +16,7 @@ use std::alloc::Global;
 
 // The calls of a deserializer; the part of a name after `_` in capitals is the name of a struct, an
 // enum or a newtype.
-const CALLS: [&str; 48] = [
+const CALLS: [&str; 50] = [
     "any",
     "ignored_any",
     "bool",
@@ -65,6 +65,8 @@ const CALLS: [&str; 48] = [
     "newtype_DECIMAL128",
     "newtype_ARRAY",
     "newtype_LAZY_VALUE",
+    "newtype_SYMBOL_REF",
+    "newtype_TRANSPARENT_VEC",
 ];
 
 /// Returns the visit that a call for the value makes; the arguments are `CALL BYTES`.
@@ -76,8 +78,8 @@ pub fn visit(alloc: Global, arguments: &str) -> Result<String, Error> {
     Ok(String::from_str(alloc, visit_name(visit))?)
 }
 
-/// Returns the names of the calls that make a visit for the value. Any error of another call than
-/// `InvalidValue` or a message is returned.
+/// Returns the names of the calls that make a visit for the value. An error of another call than
+/// `InvalidValue`, or a message of the calls for enums, is returned.
 pub fn calls(alloc: Global, bytes: &[u8]) -> Result<String, Error> {
     let mut names = String::new(alloc);
     for name in &CALLS {
@@ -86,7 +88,8 @@ pub fn calls(alloc: Global, bytes: &[u8]) -> Result<String, Error> {
                 names.push_str(if names.is_empty() { "" } else { " " })?;
                 names.push_str(*name)?;
             }
-            Err(Error::InvalidValue | Error::Message(_)) => {}
+            Err(Error::InvalidValue) => {}
+            Err(Error::Message(_)) if *name == "variant" || *name == "enum" => {}
             Err(error) => return Err(error),
         }
     }
@@ -164,6 +167,8 @@ fn made_of_newtype(value: Deserializer, call: &str) -> Result<Visit, Error> {
         "newtype_DECIMAL128" => markers::DECIMAL128,
         "newtype_ARRAY" => markers::ARRAY,
         "newtype_LAZY_VALUE" => markers::LAZY_VALUE,
+        "newtype_SYMBOL_REF" => markers::SYMBOL_REF,
+        "newtype_TRANSPARENT_VEC" => markers::TRANSPARENT_VEC,
         _ => return Err(Error::Message("no such call")),
     };
     value.deserialize_newtype_struct(name, Which)

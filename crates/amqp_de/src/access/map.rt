@@ -1,10 +1,11 @@
 //! The accessor of the keys and values of a map.
 
-ghost use Rattle.std.specs.Prelude.{◌≡◌, ◌↔◌, IsTrue, IsSome, List, Option, Some, None};
+ghost use Rattle.std.specs.Prelude.{◌≡◌, ◌↔◌, IfErr, IsTrue, IsSome, List, Option, Some, None};
 ghost use Rattle.amqp_ser.specs.Tree.{Tree};
 ghost use Rattle.amqp_de.specs.Access.{ReadsKey, ReadsValue, ReadsEntry, RestoresEntry, RestoresKey, RestoresPendingValue};
 ghost use Rattle.amqp_de.specs.Answers.{TakesPair};
 ghost use Rattle.amqp_de.specs.Enums.{value_of};
+ghost use Rattle.amqp_de.specs.Errors.{invalid_value};
 
 use crate::deserialize::Deserialize;
 use crate::deserialize_error::DeserializeError;
@@ -87,6 +88,8 @@ pub trait MapAccess: Sized + Drop {
             (pending_value self.old) (left self.old) (pending_value self.new) (left self.new) result }
         ensures law { RestoresKey K.image K.restorable K.same
             Self.Error.is_out_of_memory (pending_value self.old) (left self.old) result }
+        ensures invalid { IsSome (pending_value self.old) →
+            IfErr result (λ e. Self.Error.is invalid_value e) }
     {
         if self.has_pending_value() {
             return Err(Self::Error::invalid_value());
@@ -122,6 +125,8 @@ pub trait MapAccess: Sized + Drop {
             (pending_value self.old) (left self.old) (pending_value self.new) (left self.new) result }
         ensures law { RestoresPendingValue V.image V.restorable V.same
             Self.Error.is_out_of_memory (pending_value self.old) result }
+        ensures invalid { pending_value self.old ≡ None →
+            IfErr result (λ e. Self.Error.is invalid_value e) }
     {
         match self.take_pending_value() {
             Some(value) => match seed.deserialize(alloc, value) {
@@ -154,6 +159,8 @@ pub trait MapAccess: Sized + Drop {
             (pending_value self.old) (left self.old) (pending_value self.new) (left self.new) result }
         ensures law { RestoresEntry K.image K.restorable K.same V.image V.restorable V.same
             Self.Error.is_out_of_memory (pending_value self.old) (left self.old) result }
+        ensures invalid { IsSome (pending_value self.old) →
+            IfErr result (λ e. Self.Error.is invalid_value e) }
     {
         if self.has_pending_value() {
             return Err(Self::Error::invalid_value());
@@ -184,6 +191,8 @@ pub trait MapAccess: Sized + Drop {
             (pending_value self.old) (left self.old) (pending_value self.new) (left self.new) result }
         ensures law { RestoresKey K.image K.restorable K.same
             Self.Error.is_out_of_memory (pending_value self.old) (left self.old) result }
+        ensures invalid { IsSome (pending_value self.old) →
+            IfErr result (λ e. Self.Error.is invalid_value e) }
     {
         self.next_key_seed(alloc, TypeSeed(PhantomData::<K>))
     }
@@ -202,6 +211,8 @@ pub trait MapAccess: Sized + Drop {
             (pending_value self.old) (left self.old) (pending_value self.new) (left self.new) result }
         ensures law { RestoresPendingValue V.image V.restorable V.same
             Self.Error.is_out_of_memory (pending_value self.old) result }
+        ensures invalid { pending_value self.old ≡ None →
+            IfErr result (λ e. Self.Error.is invalid_value e) }
     {
         self.next_value_seed(alloc, TypeSeed(PhantomData::<V>))
     }
@@ -224,6 +235,8 @@ pub trait MapAccess: Sized + Drop {
             (pending_value self.old) (left self.old) (pending_value self.new) (left self.new) result }
         ensures law { RestoresEntry K.image K.restorable K.same V.image V.restorable V.same
             Self.Error.is_out_of_memory (pending_value self.old) (left self.old) result }
+        ensures invalid { IsSome (pending_value self.old) →
+            IfErr result (λ e. Self.Error.is invalid_value e) }
     {
         self.next_entry_seed(
             alloc,

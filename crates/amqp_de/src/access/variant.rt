@@ -1,12 +1,14 @@
 //! The accessors of a variant of an enum: its index and its value.
 
-ghost use Rattle.std.specs.Prelude.{◌≡◌, Ok, Option, Some};
+ghost use Rattle.std.specs.Prelude.{◌≡◌, Ok, Option, Some, None, IfErr, IsSomeAnd, codes};
 ghost use Rattle.amqp_ser.specs.Tree.{Tree};
 ghost use Rattle.amqp_de.specs.Access.{Picks, RestoresPicked, RestoresPendingValue};
 ghost use Rattle.amqp_de.specs.Answers.{Answers};
 ghost use Rattle.amqp_de.specs.Enums.{value_of};
 ghost use Rattle.amqp_de.specs.Events.{ByList, Visits};
 ghost use Rattle.amqp_de.specs.Fields.{There};
+ghost use Rattle.amqp_de.specs.Errors.{invalid_value, message};
+ghost use Rattle.amqp_de.specs.Accepted.{IsList};
 
 use crate::calls::compounds::DeserializeCompounds;
 use crate::deserialize::Deserialize;
@@ -140,6 +142,8 @@ pub trait VariantAccess: Sized + Drop {
         ensures read { Answers Self.Error.is_out_of_memory (There (S.reads seed) (content self)) result }
         ensures law { RestoresPendingValue S.image S.restorable S.same
             Self.Error.is_out_of_memory (content self) result }
+        ensures missing { content self ≡ None →
+            IfErr result (λ e. Self.Error.is (message (codes "Expecting a value")) e) }
     {
         match self.into_item() {
             Some(item) => match seed.deserialize(alloc, item) {
@@ -161,6 +165,8 @@ pub trait VariantAccess: Sized + Drop {
         ensures read { Answers Self.Error.is_out_of_memory (There T.reads (content self)) result }
         ensures law { RestoresPendingValue T.image T.restorable T.same
             Self.Error.is_out_of_memory (content self) result }
+        ensures missing { content self ≡ None →
+            IfErr result (λ e. Self.Error.is (message (codes "Expecting a value")) e) }
     {
         self.newtype_variant_seed(alloc, TypeSeed(PhantomData::<T>))
     }
@@ -174,8 +180,12 @@ pub trait VariantAccess: Sized + Drop {
     /// # Example
     /// For the list of the ubytes 1 and 2, calls `visit_seq` with these two elements.
     final fn tuple_variant<V: Visitor>(self, visitor: V) -> Result<V::Value, Self::Error>
-        ensures { Visits (There (ByList (V.gives visitor))) (There (ByList (V.represents visitor)))
+        ensures visits { Visits (There (ByList (V.gives visitor))) (There (ByList (V.represents visitor)))
             V.same Self.Error.is_out_of_memory (content self) result }
+        ensures invalid { IsSomeAnd (content self) (λ t. ¬ IsList t) →
+            IfErr result (λ e. Self.Error.is invalid_value e) }
+        ensures missing { content self ≡ None →
+            IfErr result (λ e. Self.Error.is (message (codes "Expecting Value::List")) e) }
     {
         match self.into_item() {
             Some(item) => item.deserialize_seq(visitor),
@@ -191,8 +201,12 @@ pub trait VariantAccess: Sized + Drop {
     /// # Example
     /// For the list of the ubytes 1 and 2, calls `visit_seq` with these two elements.
     final fn struct_variant<V: Visitor>(self, visitor: V) -> Result<V::Value, Self::Error>
-        ensures { Visits (There (ByList (V.gives visitor))) (There (ByList (V.represents visitor)))
+        ensures visits { Visits (There (ByList (V.gives visitor))) (There (ByList (V.represents visitor)))
             V.same Self.Error.is_out_of_memory (content self) result }
+        ensures invalid { IsSomeAnd (content self) (λ t. ¬ IsList t) →
+            IfErr result (λ e. Self.Error.is invalid_value e) }
+        ensures missing { content self ≡ None →
+            IfErr result (λ e. Self.Error.is (message (codes "Expecting Value::List")) e) }
     {
         self.tuple_variant(visitor)
     }

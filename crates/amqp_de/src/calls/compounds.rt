@@ -1,21 +1,25 @@
 //! The methods that deserialize sequences, maps, structs, enums, described values and newtypes.
 
 ghost use Rattle.std.specs.Prelude.{List};
-ghost use Rattle.amqp_ser.specs.Marked.{is_descriptor_name, is_value_name, marker_of};
+ghost use Rattle.amqp_ser.specs.Marked.{is_descriptor_name, is_value_name};
 ghost use Rattle.amqp_ser.specs.Tree.{null};
-ghost use Rattle.amqp_de.specs.Events.{plain_event, any_event, is_array_name, is_described_name, Visits, ByList, ByMap, ByIdentifier, ByDescribed, ByStruct, ByDescriptor, ByFormat, ByVariant, ByEnum, ByArray, ByWritten, ByMarker};
+ghost use Rattle.amqp_de.specs.Events.{plain_event, any_event, is_array_name, is_described_name, Visits, ByList, ByMap, ByIdentifier, ByDescribed, ByStruct, ByDescriptor, ByFormat, ByVariant, ByEnum, ByArray, ByWritten, ByMarker, read_marker};
+ghost use Rattle.amqp_de.specs.Accepted.{IsArray, IsDescribed, IsDescriptor, IsIdentifier, IsList, IsMap, IsMarked, IsStruct};
+ghost use Rattle.amqp_de.specs.Errors.{InvalidUnless};
 
 use crate::access::{ElementsOf, EntriesOf, EnumAccessOf};
 use crate::calls::scalars::DeserializeScalars;
 use crate::content::Content;
 use crate::deserialize_error::DeserializeError;
 use crate::deserializer::Deserializer;
-use crate::names::{is_array_name, is_described_name, is_descriptor_name, is_value_name};
+use crate::names::{
+    is_array_name, is_described_name, is_descriptor_name, is_value_name, marker_read,
+};
 use crate::untyped;
 use crate::unwritable::unwritable;
 use crate::visitor::Visitor;
 use amqp_data::ByteBuf;
-use amqp_ser::{Marker, marker_named};
+use amqp_ser::Marker;
 use amqp_value::Value;
 use amqp_wire::to_vec;
 
@@ -35,8 +39,9 @@ pub trait DeserializeCompounds: Deserializer {
     /// them is invalid.
     #[tactic(auto, using(crate::proofs::Lists::list_of_trees))]
     final fn deserialize_seq<V: Visitor>(self, visitor: V) -> Result<V::Value, Self::Error>
-        ensures { Visits (ByList (V.gives visitor)) (ByList (V.represents visitor))
+        ensures visits { Visits (ByList (V.gives visitor)) (ByList (V.represents visitor))
             V.same Self.Error.is_out_of_memory (Self.value self) result }
+        ensures invalid { InvalidUnless Self.Error.is (IsList (Self.value self)) result }
     {
         match self.open() {
             Content::List(elements) => visitor.visit_seq(ElementsOf::<Self>::new(elements)),
@@ -53,8 +58,9 @@ pub trait DeserializeCompounds: Deserializer {
     /// # Example
     /// For the list of the ubyte 1 and `true`, calls `visit_seq` with these two elements.
     final fn deserialize_tuple<V: Visitor>(self, visitor: V) -> Result<V::Value, Self::Error>
-        ensures { Visits (ByList (V.gives visitor)) (ByList (V.represents visitor))
+        ensures visits { Visits (ByList (V.gives visitor)) (ByList (V.represents visitor))
             V.same Self.Error.is_out_of_memory (Self.value self) result }
+        ensures invalid { InvalidUnless Self.Error.is (IsList (Self.value self)) result }
     {
         self.deserialize_seq(visitor)
     }
@@ -69,8 +75,9 @@ pub trait DeserializeCompounds: Deserializer {
     /// For the map from the ubyte 1 to `true`, calls `visit_map` with this pair.
     #[tactic(auto, using(crate::proofs::Lists::entries_in_pairs))]
     final fn deserialize_map<V: Visitor>(self, visitor: V) -> Result<V::Value, Self::Error>
-        ensures { Visits (ByMap (V.gives visitor)) (ByMap (V.represents visitor))
+        ensures visits { Visits (ByMap (V.gives visitor)) (ByMap (V.represents visitor))
             V.same Self.Error.is_out_of_memory (Self.value self) result }
+        ensures invalid { InvalidUnless Self.Error.is (IsMap (Self.value self)) result }
     {
         match self.open() {
             Content::Map(entries) => visitor.visit_map(EntriesOf::<Self>::new(entries)),
@@ -88,8 +95,9 @@ pub trait DeserializeCompounds: Deserializer {
     /// For the uint 1, calls `visit_u32(1)`. For the symbol `a`, calls `visit_string` with `a`. The
     /// string `a` is invalid.
     final fn deserialize_identifier<V: Visitor>(self, visitor: V) -> Result<V::Value, Self::Error>
-        ensures { Visits (ByIdentifier (V.gives visitor)) (ByIdentifier (V.represents visitor))
+        ensures visits { Visits (ByIdentifier (V.gives visitor)) (ByIdentifier (V.represents visitor))
             V.same Self.Error.is_out_of_memory (Self.value self) result }
+        ensures invalid { InvalidUnless Self.Error.is (IsIdentifier (Self.value self)) result }
     {
         match self.open() {
             Content::Uint(value) => visitor.visit_u32(value),
@@ -122,8 +130,9 @@ pub trait DeserializeCompounds: Deserializer {
     /// For `true` described by the code 1, calls `visit_described` with this code and a
     /// deserializer of `true`. The value `true` without a descriptor is invalid.
     final fn deserialize_described<V: Visitor>(self, visitor: V) -> Result<V::Value, Self::Error>
-        ensures { Visits (ByDescribed (V.gives visitor)) (ByDescribed (V.represents visitor))
+        ensures visits { Visits (ByDescribed (V.gives visitor)) (ByDescribed (V.represents visitor))
             V.same Self.Error.is_out_of_memory (Self.value self) result }
+        ensures invalid { InvalidUnless Self.Error.is (IsDescribed (Self.value self)) result }
     {
         match self.open() {
             Content::Described(descriptor, value) => visitor.visit_described(descriptor, value),
@@ -146,9 +155,11 @@ pub trait DeserializeCompounds: Deserializer {
         name: &str,
         visitor: V,
     ) -> Result<V::Value, Self::Error>
-        ensures { Visits (ByStruct (V.gives visitor) (is_described_name name.now))
+        ensures visits { Visits (ByStruct (V.gives visitor) (is_described_name name.now))
             (ByStruct (V.represents visitor) (is_described_name name.now))
             V.same Self.Error.is_out_of_memory (Self.value self) result }
+        ensures invalid { InvalidUnless Self.Error.is
+            (IsStruct (is_described_name name.now) (Self.value self)) result }
     {
         if is_described_name(name) {
             self.deserialize_described(visitor)
@@ -169,9 +180,11 @@ pub trait DeserializeCompounds: Deserializer {
         name: &str,
         visitor: V,
     ) -> Result<V::Value, Self::Error>
-        ensures { Visits (ByStruct (V.gives visitor) (is_described_name name.now))
+        ensures visits { Visits (ByStruct (V.gives visitor) (is_described_name name.now))
             (ByStruct (V.represents visitor) (is_described_name name.now))
             V.same Self.Error.is_out_of_memory (Self.value self) result }
+        ensures invalid { InvalidUnless Self.Error.is
+            (IsStruct (is_described_name name.now) (Self.value self)) result }
     {
         self.deserialize_struct(name, visitor)
     }
@@ -186,8 +199,9 @@ pub trait DeserializeCompounds: Deserializer {
     /// For the ulong 1, calls `visit_u64(1)`. For the symbol `a:b`, calls `visit_string` with
     /// `a:b`.
     final fn deserialize_descriptor<V: Visitor>(self, visitor: V) -> Result<V::Value, Self::Error>
-        ensures { Visits (ByDescriptor (V.gives visitor)) (ByDescriptor (V.represents visitor))
+        ensures visits { Visits (ByDescriptor (V.gives visitor)) (ByDescriptor (V.represents visitor))
             V.same Self.Error.is_out_of_memory (Self.value self) result }
+        ensures invalid { InvalidUnless Self.Error.is (IsDescriptor (Self.value self)) result }
     {
         match self.open() {
             Content::Ulong(value) => visitor.visit_u64(value),
@@ -301,8 +315,9 @@ pub trait DeserializeCompounds: Deserializer {
     /// them is invalid.
     #[tactic(auto, using(crate::proofs::Lists::list_of_trees))]
     final fn deserialize_array<V: Visitor>(self, visitor: V) -> Result<V::Value, Self::Error>
-        ensures { Visits (ByArray (V.gives visitor)) (ByArray (V.represents visitor))
+        ensures visits { Visits (ByArray (V.gives visitor)) (ByArray (V.represents visitor))
             V.same Self.Error.is_out_of_memory (Self.value self) result }
+        ensures invalid { InvalidUnless Self.Error.is (IsArray (Self.value self)) result }
     {
         match self.open() {
             Content::Array(elements) => visitor.visit_seq(ElementsOf::<Self>::new(elements)),
@@ -351,9 +366,10 @@ pub trait DeserializeCompounds: Deserializer {
         marker: Marker,
         visitor: V,
     ) -> Result<V::Value, Self::Error>
-        ensures { Visits (ByMarker (V.gives visitor) marker)
+        ensures visits { Visits (ByMarker (V.gives visitor) marker)
             (ByMarker (V.represents visitor) marker)
             V.same Self.Error.is_out_of_memory (Self.value self) result }
+        ensures invalid { InvalidUnless Self.Error.is (IsMarked marker (Self.value self)) result }
     {
         match marker {
             Marker::Transparent | Marker::Other => visitor.visit_newtype_struct(self),
@@ -390,8 +406,8 @@ pub trait DeserializeCompounds: Deserializer {
     /// that the marker makes.
     ///
     /// # Errors
-    /// Returns the errors of `deserialize_marked` for the marker of this name. For any other name
-    /// returns the visitor's error.
+    /// Returns the errors of `deserialize_marked` for the marker of this name. For any other name,
+    /// and for `SYMBOL_REF`, returns the visitor's error.
     ///
     /// # Example
     /// For the uint 1 under the name `Celsius`, calls `visit_newtype_struct` with a deserializer of
@@ -401,11 +417,13 @@ pub trait DeserializeCompounds: Deserializer {
         name: &str,
         visitor: V,
     ) -> Result<V::Value, Self::Error>
-        ensures { Visits (ByMarker (V.gives visitor) (marker_of name.now))
-            (ByMarker (V.represents visitor) (marker_of name.now))
+        ensures visits { Visits (ByMarker (V.gives visitor) (read_marker name.now))
+            (ByMarker (V.represents visitor) (read_marker name.now))
             V.same Self.Error.is_out_of_memory (Self.value self) result }
+        ensures invalid { InvalidUnless Self.Error.is
+            (IsMarked (read_marker name.now) (Self.value self)) result }
     {
-        self.deserialize_marked(marker_named(name), visitor)
+        self.deserialize_marked(marker_read(name), visitor)
     }
 
     /// Deserializes a value by its kind. A symbol, timestamp, uuid or decimal is reported as an

@@ -1,8 +1,10 @@
 //! The methods that deserialize scalars of Rust's types.
 
 ghost use Rattle.std.specs.Prelude.{◌≡◌, false};
-ghost use Rattle.amqp_ser.specs.Tree.{bool, ubyte, ushort, uint, ulong, byte, short, int, long, float, double, char, string, binary};
+ghost use Rattle.amqp_ser.specs.Tree.{scalar, null, bool, ubyte, ushort, uint, ulong, byte, short, int, long, float, double, char, string, binary};
 ghost use Rattle.amqp_de.specs.Events.{Visits, ByPlain, ByOption, ByUnit};
+ghost use Rattle.amqp_de.specs.Errors.{InvalidUnless};
+ghost use Rattle.amqp_de.specs.Accepted.{IsOf};
 
 use crate::content::Content;
 use crate::deserialize_error::DeserializeError;
@@ -31,8 +33,9 @@ pub trait DeserializeScalars: Deserializer {
     /// # Example
     /// For `true`, calls `visit_bool(true)`. The ubyte 1 is invalid.
     final fn deserialize_bool<V: Visitor>(self, visitor: V) -> Result<V::Value, Self::Error>
-        ensures { Visits (ByPlain (V.gives visitor) bool) (ByPlain (V.represents visitor) bool)
+        ensures visits { Visits (ByPlain (V.gives visitor) bool) (ByPlain (V.represents visitor) bool)
             V.same Self.Error.is_out_of_memory (Self.value self) result }
+        ensures invalid { InvalidUnless Self.Error.is (IsOf bool (Self.value self)) result }
     {
         match self.open() {
             Content::Bool(value) => visitor.visit_bool(value),
@@ -49,8 +52,9 @@ pub trait DeserializeScalars: Deserializer {
     /// # Example
     /// For the ubyte 5, calls `visit_u8(5)`. The uint 5 is invalid.
     final fn deserialize_u8<V: Visitor>(self, visitor: V) -> Result<V::Value, Self::Error>
-        ensures { Visits (ByPlain (V.gives visitor) ubyte) (ByPlain (V.represents visitor) ubyte)
+        ensures visits { Visits (ByPlain (V.gives visitor) ubyte) (ByPlain (V.represents visitor) ubyte)
             V.same Self.Error.is_out_of_memory (Self.value self) result }
+        ensures invalid { InvalidUnless Self.Error.is (IsOf ubyte (Self.value self)) result }
     {
         match self.open() {
             Content::Ubyte(value) => visitor.visit_u8(value),
@@ -67,8 +71,9 @@ pub trait DeserializeScalars: Deserializer {
     /// # Example
     /// For the ushort 256, calls `visit_u16(256)`.
     final fn deserialize_u16<V: Visitor>(self, visitor: V) -> Result<V::Value, Self::Error>
-        ensures { Visits (ByPlain (V.gives visitor) ushort) (ByPlain (V.represents visitor) ushort)
+        ensures visits { Visits (ByPlain (V.gives visitor) ushort) (ByPlain (V.represents visitor) ushort)
             V.same Self.Error.is_out_of_memory (Self.value self) result }
+        ensures invalid { InvalidUnless Self.Error.is (IsOf ushort (Self.value self)) result }
     {
         match self.open() {
             Content::Ushort(value) => visitor.visit_u16(value),
@@ -85,8 +90,9 @@ pub trait DeserializeScalars: Deserializer {
     /// # Example
     /// For the uint 1, calls `visit_u32(1)`. The ulong 1 is invalid.
     final fn deserialize_u32<V: Visitor>(self, visitor: V) -> Result<V::Value, Self::Error>
-        ensures { Visits (ByPlain (V.gives visitor) uint) (ByPlain (V.represents visitor) uint)
+        ensures visits { Visits (ByPlain (V.gives visitor) uint) (ByPlain (V.represents visitor) uint)
             V.same Self.Error.is_out_of_memory (Self.value self) result }
+        ensures invalid { InvalidUnless Self.Error.is (IsOf uint (Self.value self)) result }
     {
         match self.open() {
             Content::Uint(value) => visitor.visit_u32(value),
@@ -103,8 +109,9 @@ pub trait DeserializeScalars: Deserializer {
     /// # Example
     /// For the ulong 13, calls `visit_u64(13)`.
     final fn deserialize_u64<V: Visitor>(self, visitor: V) -> Result<V::Value, Self::Error>
-        ensures { Visits (ByPlain (V.gives visitor) ulong) (ByPlain (V.represents visitor) ulong)
+        ensures visits { Visits (ByPlain (V.gives visitor) ulong) (ByPlain (V.represents visitor) ulong)
             V.same Self.Error.is_out_of_memory (Self.value self) result }
+        ensures invalid { InvalidUnless Self.Error.is (IsOf ulong (Self.value self)) result }
     {
         match self.open() {
             Content::Ulong(value) => visitor.visit_u64(value),
@@ -121,8 +128,9 @@ pub trait DeserializeScalars: Deserializer {
     /// # Example
     /// For the byte -1, calls `visit_i8(-1)`.
     final fn deserialize_i8<V: Visitor>(self, visitor: V) -> Result<V::Value, Self::Error>
-        ensures { Visits (ByPlain (V.gives visitor) byte) (ByPlain (V.represents visitor) byte)
+        ensures visits { Visits (ByPlain (V.gives visitor) byte) (ByPlain (V.represents visitor) byte)
             V.same Self.Error.is_out_of_memory (Self.value self) result }
+        ensures invalid { InvalidUnless Self.Error.is (IsOf byte (Self.value self)) result }
     {
         match self.open() {
             Content::Byte(value) => visitor.visit_i8(value),
@@ -139,8 +147,9 @@ pub trait DeserializeScalars: Deserializer {
     /// # Example
     /// For the short -2, calls `visit_i16(-2)`.
     final fn deserialize_i16<V: Visitor>(self, visitor: V) -> Result<V::Value, Self::Error>
-        ensures { Visits (ByPlain (V.gives visitor) short) (ByPlain (V.represents visitor) short)
+        ensures visits { Visits (ByPlain (V.gives visitor) short) (ByPlain (V.represents visitor) short)
             V.same Self.Error.is_out_of_memory (Self.value self) result }
+        ensures invalid { InvalidUnless Self.Error.is (IsOf short (Self.value self)) result }
     {
         match self.open() {
             Content::Short(value) => visitor.visit_i16(value),
@@ -157,8 +166,9 @@ pub trait DeserializeScalars: Deserializer {
     /// # Example
     /// For the int 128, calls `visit_i32(128)`.
     final fn deserialize_i32<V: Visitor>(self, visitor: V) -> Result<V::Value, Self::Error>
-        ensures { Visits (ByPlain (V.gives visitor) int) (ByPlain (V.represents visitor) int)
+        ensures visits { Visits (ByPlain (V.gives visitor) int) (ByPlain (V.represents visitor) int)
             V.same Self.Error.is_out_of_memory (Self.value self) result }
+        ensures invalid { InvalidUnless Self.Error.is (IsOf int (Self.value self)) result }
     {
         match self.open() {
             Content::Int(value) => visitor.visit_i32(value),
@@ -175,8 +185,9 @@ pub trait DeserializeScalars: Deserializer {
     /// # Example
     /// For the long -1, calls `visit_i64(-1)`. A timestamp is invalid.
     final fn deserialize_i64<V: Visitor>(self, visitor: V) -> Result<V::Value, Self::Error>
-        ensures { Visits (ByPlain (V.gives visitor) long) (ByPlain (V.represents visitor) long)
+        ensures visits { Visits (ByPlain (V.gives visitor) long) (ByPlain (V.represents visitor) long)
             V.same Self.Error.is_out_of_memory (Self.value self) result }
+        ensures invalid { InvalidUnless Self.Error.is (IsOf long (Self.value self)) result }
     {
         match self.open() {
             Content::Long(value) => visitor.visit_i64(value),
@@ -193,8 +204,9 @@ pub trait DeserializeScalars: Deserializer {
     /// # Example
     /// For the float 1.5, calls `visit_f32` with the bits 3FC00000.
     final fn deserialize_f32<V: Visitor>(self, visitor: V) -> Result<V::Value, Self::Error>
-        ensures { Visits (ByPlain (V.gives visitor) float) (ByPlain (V.represents visitor) float)
+        ensures visits { Visits (ByPlain (V.gives visitor) float) (ByPlain (V.represents visitor) float)
             V.same Self.Error.is_out_of_memory (Self.value self) result }
+        ensures invalid { InvalidUnless Self.Error.is (IsOf float (Self.value self)) result }
     {
         match self.open() {
             Content::Float(value) => visitor.visit_f32(value),
@@ -211,8 +223,9 @@ pub trait DeserializeScalars: Deserializer {
     /// # Example
     /// For the double 1.5, calls `visit_f64` with the bits 3FF8000000000000.
     final fn deserialize_f64<V: Visitor>(self, visitor: V) -> Result<V::Value, Self::Error>
-        ensures { Visits (ByPlain (V.gives visitor) double) (ByPlain (V.represents visitor) double)
+        ensures visits { Visits (ByPlain (V.gives visitor) double) (ByPlain (V.represents visitor) double)
             V.same Self.Error.is_out_of_memory (Self.value self) result }
+        ensures invalid { InvalidUnless Self.Error.is (IsOf double (Self.value self)) result }
     {
         match self.open() {
             Content::Double(value) => visitor.visit_f64(value),
@@ -229,8 +242,9 @@ pub trait DeserializeScalars: Deserializer {
     /// # Example
     /// For the char `a`, calls `visit_char('a')`.
     final fn deserialize_char<V: Visitor>(self, visitor: V) -> Result<V::Value, Self::Error>
-        ensures { Visits (ByPlain (V.gives visitor) char) (ByPlain (V.represents visitor) char)
+        ensures visits { Visits (ByPlain (V.gives visitor) char) (ByPlain (V.represents visitor) char)
             V.same Self.Error.is_out_of_memory (Self.value self) result }
+        ensures invalid { InvalidUnless Self.Error.is (IsOf char (Self.value self)) result }
     {
         match self.open() {
             Content::Char(value) => visitor.visit_char(value),
@@ -247,8 +261,9 @@ pub trait DeserializeScalars: Deserializer {
     /// # Example
     /// For the string `a`, calls `visit_string` with it. The symbol `a` is invalid.
     final fn deserialize_string<V: Visitor>(self, visitor: V) -> Result<V::Value, Self::Error>
-        ensures { Visits (ByPlain (V.gives visitor) string) (ByPlain (V.represents visitor) string)
+        ensures visits { Visits (ByPlain (V.gives visitor) string) (ByPlain (V.represents visitor) string)
             V.same Self.Error.is_out_of_memory (Self.value self) result }
+        ensures invalid { InvalidUnless Self.Error.is (IsOf string (Self.value self)) result }
     {
         match self.open() {
             Content::String(value) => visitor.visit_string(value),
@@ -265,8 +280,9 @@ pub trait DeserializeScalars: Deserializer {
     /// # Example
     /// For the string `a`, calls `visit_string` with it.
     final fn deserialize_str<V: Visitor>(self, visitor: V) -> Result<V::Value, Self::Error>
-        ensures { Visits (ByPlain (V.gives visitor) string) (ByPlain (V.represents visitor) string)
+        ensures visits { Visits (ByPlain (V.gives visitor) string) (ByPlain (V.represents visitor) string)
             V.same Self.Error.is_out_of_memory (Self.value self) result }
+        ensures invalid { InvalidUnless Self.Error.is (IsOf string (Self.value self)) result }
     {
         self.deserialize_string(visitor)
     }
@@ -280,8 +296,9 @@ pub trait DeserializeScalars: Deserializer {
     /// # Example
     /// For the binary 01, 02, calls `visit_byte_buf` with it. A list of ubytes is invalid.
     final fn deserialize_byte_buf<V: Visitor>(self, visitor: V) -> Result<V::Value, Self::Error>
-        ensures { Visits (ByPlain (V.gives visitor) binary) (ByPlain (V.represents visitor) binary)
+        ensures visits { Visits (ByPlain (V.gives visitor) binary) (ByPlain (V.represents visitor) binary)
             V.same Self.Error.is_out_of_memory (Self.value self) result }
+        ensures invalid { InvalidUnless Self.Error.is (IsOf binary (Self.value self)) result }
     {
         match self.open() {
             Content::Binary(value) => visitor.visit_byte_buf(value),
@@ -298,8 +315,9 @@ pub trait DeserializeScalars: Deserializer {
     /// # Example
     /// For the binary 01, 02, calls `visit_byte_buf` with it.
     final fn deserialize_bytes<V: Visitor>(self, visitor: V) -> Result<V::Value, Self::Error>
-        ensures { Visits (ByPlain (V.gives visitor) binary) (ByPlain (V.represents visitor) binary)
+        ensures visits { Visits (ByPlain (V.gives visitor) binary) (ByPlain (V.represents visitor) binary)
             V.same Self.Error.is_out_of_memory (Self.value self) result }
+        ensures invalid { InvalidUnless Self.Error.is (IsOf binary (Self.value self)) result }
     {
         self.deserialize_byte_buf(visitor)
     }
@@ -332,8 +350,9 @@ pub trait DeserializeScalars: Deserializer {
     /// # Example
     /// For null, calls `visit_unit()`. The boolean `false` is invalid.
     final fn deserialize_unit<V: Visitor>(self, visitor: V) -> Result<V::Value, Self::Error>
-        ensures { Visits (ByUnit (V.gives visitor)) (ByUnit (V.represents visitor))
+        ensures visits { Visits (ByUnit (V.gives visitor)) (ByUnit (V.represents visitor))
             V.same Self.Error.is_out_of_memory (Self.value self) result }
+        ensures invalid { InvalidUnless Self.Error.is (Self.value self ≡ scalar null) result }
     {
         if self.is_null() {
             visitor.visit_unit()
@@ -355,8 +374,9 @@ pub trait DeserializeScalars: Deserializer {
         _name: &str,
         visitor: V,
     ) -> Result<V::Value, Self::Error>
-        ensures { Visits (ByUnit (V.gives visitor)) (ByUnit (V.represents visitor))
+        ensures visits { Visits (ByUnit (V.gives visitor)) (ByUnit (V.represents visitor))
             V.same Self.Error.is_out_of_memory (Self.value self) result }
+        ensures invalid { InvalidUnless Self.Error.is (Self.value self ≡ scalar null) result }
     {
         self.deserialize_unit(visitor)
     }

@@ -24,8 +24,8 @@ ghost use Rattle.amqp_de.specs.Values.{entries_in};
 
 use crate::deserialize::Deserialize;
 use amqp_data::{
-    Array, ByteBuf, Dec32, Dec64, Dec128, Described, Descriptor, F32Bits, F64Bits,
-    OrderedMap, Symbol, Timestamp, TransparentVec, Uuid,
+    Array, ByteBuf, Dec32, Dec64, Dec128, Described, Descriptor, F32Bits, F64Bits, OrderedMap,
+    Symbol, Timestamp, TransparentVec, Uuid,
 };
 use amqp_frame::LazyValue;
 use amqp_value::Value;

@@ -9,4 +9,4 @@ use Rattle.amqp_to_value.proofs.serializer.SerializerSerializer.serialize_str.Go
 pub returns : goal.returns
 returns c =
     c.finish.ensures c.args.self.now _ (ap (λ a. a.kept) c.take_pending-pending.ensures.descriptors) (ap standing c.take_pending-pending.ensures.descriptors) c.take_pending-pending.ensures.none
-    (subst (λ u. IsImageOf (meant u (Some (scalar (string c.args.v.now)))) c.marked_text.result) c.take_pending-pending.ensures.pending (text_answer c.take_pending-pending.result c.args.v.now c.marked_text.result c.marked_text.ensures))
+    (subst (λ u. IsImageOf (meant u (Some (scalar (string c.args.v.now)))) c.marked_text.result) c.take_pending-pending.ensures.pending (text_answer c.take_pending-pending.result c.args.v.now c.marked_text.result c.marked_text.ensures.image))
