@@ -5,4 +5,4 @@ pub returns-in-Some-clause-visits : goal.returns-in-Some-clause-visits
 returns-in-Some-clause-visits g c = rw (← c.into_item.ensures, c.in-Some.is) c.deserialize_seq.ensures.visits
 
 pub returns-in-Some-clause-invalid : goal.returns-in-Some-clause-invalid
-returns-in-Some-clause-invalid g c = rw (← c.into_item.ensures, c.in-Some.is) (not-accepted _ _ c.deserialize_seq.result c.deserialize_seq.ensures.invalid)
+returns-in-Some-clause-invalid g c = rw (← c.into_item.ensures, c.in-Some.is) (not-accepted g.Self.Error.DeserializeError.is _ c.deserialize_seq.result c.deserialize_seq.ensures.invalid)
