@@ -244,8 +244,6 @@ def check(t):
         raise Wrong(line, f"{n} has two variants of one type")
     if "map_key" in t.flags and t.encoding != "scalar" and not t.transparent:
         raise Wrong(line, 'map_key is for encoding = "scalar", and for "basic" without a descriptor')
-    if t.reads and t.encoding == "list" and t.symbol and not t.code and "full" in t.flags:
-        raise Wrong(line, f"{n}: `full` is for a list with a code, or without a descriptor")
     for f in t.fields + [f for v in t.variants for f in v.fields]:
         if float_ := re.search(r"\bf(32|64)\b", f.type):
             raise Wrong(line, f"{n}: the type of a float is F{float_.group(1)}Bits, not f{float_.group(1)}")

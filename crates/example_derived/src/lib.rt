@@ -10,6 +10,7 @@ mod failure;
 mod item;
 mod limits;
 mod outcome;
+mod parcel;
 mod report;
 mod restricted;
 
@@ -19,5 +20,6 @@ pub use failure::{Failure, Rejected};
 pub use item::Item;
 pub use limits::Limits;
 pub use outcome::{Accepted, Modified, Outcome};
+pub use parcel::{Envelope, Label, Parcel, Receipt};
 pub use report::{Position, Report};
 pub use restricted::{Durability, Expiry, Role, Unit};
