@@ -193,10 +193,10 @@ impl FieldSeeds for () {
         &self,
         _alloc: Global,
         count: u32,
-        body: &[u8],
+        entries: &[u8],
         _depth: u16,
     ) -> Result<(), GaveUp> {
-        if count == 0 && body.is_empty() {
+        if count == 0 && entries.is_empty() {
             Ok(())
         } else {
             Err(GaveUp)

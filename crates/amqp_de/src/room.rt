@@ -34,16 +34,16 @@ pub(crate) fn most_reserved(size: usize) -> usize {
 #[inline(always)]
 pub(crate) fn first_item<T: Drop>(
     alloc: Global,
-    item: T,
+    first: T,
     count: u32,
     bytes: &[u8],
 ) -> Result<Vec<T>, GaveUp>
-    ensures { IfOk result (λ v. v.items ≡ item ∷ []) }
+    ensures { IfOk result (λ v. v.items ≡ first ∷ []) }
 {
     let mut items = Vec::new(alloc);
-    let most = most_reserved(size_of_val(&item));
+    let most = most_reserved(size_of_val(&first));
     items.reserve_exact((count as usize).min(bytes.len()).min(most))?;
-    items.push(item)?;
+    items.push(first)?;
     Ok(items)
 }
 

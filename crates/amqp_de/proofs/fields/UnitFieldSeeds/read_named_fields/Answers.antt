@@ -7,5 +7,5 @@ use Rattle.amqp_de.proofs.fields.UnitFieldSeeds.read_named_fields.Goals as goal
 
 pub returns-then-is_empty : goal.returns-then-is_empty
 returns-then-is_empty c =
-    let len : length c.args.body.now ≡ 0 = grind (arith, common_steps) in
-    no_named (parse (suc c.args._depth)) c.args.count c.args.body.now c.if-count-eq0.true (nil-from_length c.args.body.now len)
+    let len : length c.args.entries.now ≡ 0 = grind (arith, common_steps) in
+    no_named (parse (suc c.args._depth)) c.args.count c.args.entries.now c.if-count-eq0.true (nil-from_length c.args.entries.now len)
