@@ -47,7 +47,7 @@ impl<K: AsStr, V> OrderedMap<K, V> {
             ≡ lookup (λ key. bytes_eq (K.text key) text.now) (entries_of self.old) }
     {
         match self.find_str(text) {
-            Some(at) => Some(&mut self.entries[at].1),
+            Some(place) => Some(&mut self.entries[place].1),
             None => None,
         }
     }

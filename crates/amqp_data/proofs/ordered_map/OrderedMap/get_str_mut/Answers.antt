@@ -8,8 +8,8 @@ returns-in-Some g c =
     let test = λ (k : _). bytes_eq (g.K.AsStr.text k) c.args.text.now in
     let es = c.args.self.now.entries.items in
     let e = c.index_mut.result.now in (
-      (refl, λ w. set_by_found test es w c.in-Some.at e c.in-Some.ensures c.index_mut.ensures.value, refl),
-      lookup_by_found test es c.in-Some.at e c.in-Some.ensures c.index_mut.ensures.value,
+      (refl, λ w. set_by_found test es w c.in-Some.place e c.in-Some.ensures c.index_mut.ensures.value, refl),
+      lookup_by_found test es c.in-Some.place e c.in-Some.ensures c.index_mut.ensures.value,
     )
 
 pub returns-in-None : goal.returns-in-None
