@@ -7,9 +7,7 @@ pub mod FaultLemmas
 pub mod Finds
 pub mod ScalarFramed
 pub mod Means
-pub mod SkipScalars
 pub mod Whole
-pub mod SkipLemmas
 pub mod Levels
 pub mod Classes
 pub mod ClassLemmas
@@ -24,6 +22,5 @@ pub mod OwnImage
 pub mod Framed
 pub mod ScalarBytes
 pub mod Encodes
-pub mod PlaceLemmas
 pub mod Worked
 pub mod FaultRows
