@@ -10,8 +10,8 @@
 //!
 //! Operations: 0 the size, 1 the bytes in a fresh vector, 2 the hash (FNV-1a) of the bytes, 3 an untyped value,
 //! 4 the text of an untyped value that stands ready, in a fresh string, 5 an untyped value read from the bytes, 6 as 3,
-//! and the value read out of it, 7 to 9 as 0 to 2 of an untyped value that stands ready. Where built with --cfg proton, Qpid
-//! Proton reads the bytes too.
+//! and the value read out of it, 7 to 9 as 0 to 2 of an untyped value that stands ready, 10 the bytes by an encoder that is
+//! kept. Where built with --cfg proton, Qpid Proton reads the bytes too.
 
 mod plain;
 mod values;
@@ -48,11 +48,15 @@ const SHAPES: [(&str, Source); 13] = [
 ];
 
 /// How many operations there are, and how many of them begin with a type.
-const OPERATIONS: u32 = 10;
+const OPERATIONS: u32 = 11;
 const TYPED: u32 = 7;
 
 /// The work of the library whose value is the untyped one that the data encodes.
 const UNTYPED: u32 = 2;
+
+/// The operation that writes by an encoder that is kept, and what the library calls it.
+const KEPT: u32 = 10;
+const KEPT_THERE: u32 = 7;
 
 /// The operations that answer with a hash: it is compared and not measured.
 const HASHES: [u32; 2] = [2, 9];
@@ -398,6 +402,9 @@ mod proton {
 }
 
 fn repeat<T: Serialize>(who: Who, v: &T, op: u32, times: u64) -> u64 {
+    if op == KEPT {
+        return 0;
+    }
     if !matches!(who, Who::Table | Who::Buffers) {
         return on_bytes(who, &plain::table(v).unwrap(), op, times);
     }
@@ -437,6 +444,7 @@ fn on_value(v: &Value, op: u32, times: u64) -> u64 {
 /// An operation on a shape that has no type here, but the untyped value.
 fn untyped(who: Who, v: Value, op: u32, times: u64) -> u64 {
     match who {
+        _ if op == KEPT => 0,
         Who::Project | Who::Values => on_bytes(who, &values::bytes::to_vec(&v).unwrap(), op, times),
         _ => 0,
     }
@@ -444,7 +452,8 @@ fn untyped(who: Who, v: Value, op: u32, times: u64) -> u64 {
 
 fn answer(who: Who, shape: usize, op: u32, times: u64) -> u64 {
     let source = SHAPES[shape].1;
-    if who == Who::Project && op < TYPED {
+    if who == Who::Project && (op < TYPED || op == KEPT) {
+        let op = if op == KEPT { KEPT_THERE } else { op };
         return match source {
             Rule(rule) => unsafe { amqp_shape(rule, op, times) },
             Data(work) => {

@@ -17,10 +17,10 @@ import tempfile
 
 HERE = os.path.dirname(os.path.abspath(__file__))
 CRATES = os.path.join(HERE, '..', 'crates')
-CALLS = {0: 'size', 1: 'bytes', 3: 'value', 4: 'text', 5: 'read', 6: 'typed', 7: 'untyped size', 8: 'untyped bytes'}
+CALLS = {0: 'size', 1: 'bytes', 3: 'value', 4: 'text', 5: 'read', 6: 'typed', 7: 'untyped size', 8: 'untyped bytes', 10: 'kept'}
 READ, UNTYPED_SIZE, UNTYPED_BYTES = 5, 7, 8
 # The calls that answer with the length of the bytes, and those that answer with the hash.
-LENGTHS, HASHES = [0, 7], [2, 9]
+LENGTHS, HASHES = [0, 7, 10], [2, 9]
 WHO = ['table', 'buffers', 'values', 'project']
 ALLOWED = 1.03
 # The kinds of keys of the maps that are read, their numbers of keys, and the calls.

@@ -11,7 +11,7 @@ use tool_shapes::{run_maps, run_shape, run_work};
 #[unsafe(no_mangle)]
 pub extern "C" fn amqp_bench(alloc: Global, work: u32, op: u32, data: &[u8], times: u64) -> u64
     ensures works { 5 ≤ work → result ≡ 0 }
-    ensures operations { 7 ≤ op → result ≡ 0 }
+    ensures operations { 8 ≤ op → result ≡ 0 }
 {
     run_work(alloc, work, op, data, times)
 }
@@ -20,7 +20,7 @@ pub extern "C" fn amqp_bench(alloc: Global, work: u32, op: u32, data: &[u8], tim
 #[unsafe(no_mangle)]
 pub extern "C" fn amqp_shape(alloc: Global, shape: u32, op: u32, times: u64) -> u64
     ensures shapes { 11 ≤ shape → result ≡ 0 }
-    ensures operations { 7 ≤ op → result ≡ 0 }
+    ensures operations { 8 ≤ op → result ≡ 0 }
 {
     run_shape(alloc, shape, op, times)
 }

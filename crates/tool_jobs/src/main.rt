@@ -7,6 +7,7 @@
 //! | Job | Work |
 //! |---|---|
 //! | `send` | lengths and bytes of the performatives and sections of messages |
+//! | `keep` | the bytes of `send`, by one `Encoder` |
 //! | `receive` | sections taken off a reader, decoded, and read as types |
 //! | `typed` | the same as `receive`, and the same digest; sections are read as types from their bytes |
 //! | `route` | maps decoded, searched, changed, compared and written again |
@@ -19,6 +20,7 @@ mod awkward;
 mod batch;
 mod batch_maps;
 mod digest;
+mod keep;
 mod long_forms;
 mod messages;
 mod numbers;
@@ -57,6 +59,7 @@ fn main(rt: HostRuntime) -> ExitCode {
 // Runs a small number of rounds of every job.
 fn run_all(rt: &(impl Print + AllocGlobal)) -> Result<(), Error> {
     print_digest(rt, b"send", 1, 2, 5)?;
+    print_digest(rt, b"keep", 1, 2, 5)?;
     print_digest(rt, b"receive", 1, 2, 5)?;
     print_digest(rt, b"typed", 1, 2, 5)?;
     print_digest(rt, b"route", 1, 2, 5)?;
@@ -114,6 +117,7 @@ fn run_job(
 ) -> Result<(), Error> {
     match job {
         b"send" => send::run(alloc, random, rounds, digest),
+        b"keep" => keep::run(alloc, random, rounds, digest),
         b"receive" => receive::run(alloc, random, rounds, digest),
         b"typed" => receive::typed::run(alloc, random, rounds, digest),
         b"route" => route::run(alloc, random, rounds, digest),

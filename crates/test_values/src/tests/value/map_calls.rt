@@ -60,8 +60,15 @@ fn are_found(rt: &HostRuntime, all: &OrderedMap<Value, Value>) -> Result<bool, E
 fn names(rt: &HostRuntime) -> Result<bool, Error> {
     let mut names = OrderedMap::new(rt.alloc());
     drop(names.insert(Symbol::try_from_str(rt.alloc(), "a")?, 1u8)?);
+    if let Some(value) = names.get_str_mut("a") {
+        *value = 2;
+    }
+    if let Some(value) = names.value_at_mut(0) {
+        *value = 3;
+    }
     Ok(
-        finds(rt, "get_str", names.get_str("a"), &1)
+        finds(rt, "get_str", names.get_str("a"), &3)
+            & is(rt, "past the end", &names.value_at_mut(1).is_none(), &true)
             & is(
                 rt,
                 "get_str of another",
