@@ -8,7 +8,7 @@ use crate::level::{Level, LevelKind};
 use crate::line::push_hex;
 use crate::names;
 use crate::path::field_of;
-use crate::texts::{first_payload, is_command, piece_value, value_of};
+use crate::texts::{first_payload, has_unprintable, is_command, piece_value, value_of};
 use amqp_value::Value;
 use std::alloc::Global;
 use std::num::{f32_from_bits_with_nan, f64_from_bits_with_nan};
@@ -315,10 +315,24 @@ fn push_number(alloc: Global, text: &mut String, number: f64) -> Result<(), Faul
 
 // Appends the characters of a text, as they are written in a string of JSON.
 fn push_escaped(text: &mut String, part: &str) -> Result<(), Fault> {
+    let bytes = part.as_bytes();
+    if part.is_ascii() && !has_unprintable(bytes) && !has_escaped(bytes) {
+        text.push_str(part)?;
+        return Ok(());
+    }
     for character in part.chars() {
         push_escaped_char(text, character)?;
     }
     Ok(())
+}
+
+// Whether a byte is a quote or a backslash.
+fn has_escaped(bytes: &[u8]) -> bool {
+    let mut found = false;
+    for byte in bytes {
+        found = found | (*byte == b'"') | (*byte == b'\\');
+    }
+    found
 }
 
 // Appends a character, as it is written in a string of JSON.

@@ -40,3 +40,4 @@ pub use scanner::{MAX_DEPTH, Scanner};
 pub use select::Selector;
 pub use source::{Source, Taking, take_byte, take_bytes};
 pub use summary::Summary;
+pub use texts::{push_value, value_of};

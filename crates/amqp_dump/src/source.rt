@@ -1,8 +1,9 @@
 //! A reader that keeps the bytes of the item that is being read.
 
-ghost use Rattle.std.specs.Prelude.{◌≡◌, ◌≤◌, ◌<◌, ℕ, List, [], Option, length};
-ghost use Rattle.std.specs.Io.KnownBytes.{Keeps};
-ghost use Rattle.amqp_dump.specs.Kept.{Stays};
+ghost use Rattle.std.specs.Prelude.{◌≡◌, ◌≤◌, ℕ, List, [], Option, length, drop};
+ghost use Rattle.std.specs.List.{between};
+ghost use Rattle.std.specs.Io.KnownBytes.{Keeps, prepend_known};
+ghost use Rattle.amqp_dump.specs.Kept.{ReadsMore, Stays};
 
 use crate::fault::{Fault, input_fault};
 use amqp_frame::Read;
@@ -10,9 +11,6 @@ use std::alloc::Global;
 
 // The most bytes that are read at once.
 const BLOCK: usize = 4096;
-
-// The most bytes that are read by way of a small block.
-const FEW: usize = 16;
 
 /// A source of bytes that keeps those of the item that is being read.
 ///
@@ -55,17 +53,25 @@ pub trait Taking {
     ///
     /// Returns [`Fault::Input`] if a read fails, and [`Fault::OutOfMemory`] if an allocation fails.
     fn take_some(&mut self, most: usize) -> Result<usize, Fault>
-        requires { most ≤ 4096 }
         ensures kept { Stays (held self.old) (left self.old) (held self.new) (left self.new) };
 }
 
 /// A reader, the bytes that were taken from it since the last call of `begin`, and the offset of
 /// the next byte.
+///
+/// # Memory
+///
+/// The bytes of the item, and up to 4096 bytes that were read and not taken.
 #[derive(Drop)]
 pub struct Source<R> {
     reader: R,
-    taken: Vec<u8>,
+    // Bytes that were read: the item's are from `from` to `to`, and those after were not taken.
+    bytes: Vec<u8>,
+    from: usize,
+    to: usize,
     at: u64,
+    ghost in_order: { from ≤ to },
+    ghost in_bytes: { to ≤ length bytes.items },
 }
 
 impl<R: Read> Source<R> {
@@ -75,28 +81,54 @@ impl<R: Read> Source<R> {
     {
         Source {
             reader,
-            taken: Vec::new(alloc),
+            bytes: Vec::new(alloc),
+            from: 0,
+            to: 0,
             at: 0,
         }
     }
 
-    /// Returns the reader.
-    pub fn reader(&self) -> &R {
-        &self.reader
+    // Reads more bytes if none is left, unless the input ends.
+    fn read_ahead(&mut self) -> Result<(), Fault>
+        ensures kept { Stays
+            (between self.old.from self.old.to self.old.bytes.items)
+            (prepend_known (drop self.old.to self.old.bytes.items) (R.left self.old.reader))
+            (between self.new.from self.new.to self.new.bytes.items)
+            (prepend_known (drop self.new.to self.new.bytes.items) (R.left self.new.reader)) }
+    {
+        if self.to < self.bytes.len() {
+            Ok(())
+        } else {
+            self.read_block()
+        }
+    }
+
+    // Reads more bytes, unless the input ends, and forgets those before the item.
+    fn read_block(&mut self) -> Result<(), Fault>
+        ensures kept { Stays
+            (between self.old.from self.old.to self.old.bytes.items)
+            (prepend_known (drop self.old.to self.old.bytes.items) (R.left self.old.reader))
+            (between self.new.from self.new.to self.new.bytes.items)
+            (prepend_known (drop self.new.to self.new.bytes.items) (R.left self.new.reader)) }
+    {
+        forget(&mut self.bytes, self.from);
+        self.to -= self.from;
+        self.from = 0;
+        read_more(&mut self.reader, &mut self.bytes)
     }
 }
 
 impl<R: Read> Taking for Source<R> {
-    ghost left = { λ s. R.left s.reader };
+    ghost left = { λ s. prepend_known (drop s.to s.bytes.items) (R.left s.reader) };
 
-    ghost held = { λ s. s.taken.items };
+    ghost held = { λ s. between s.from s.to s.bytes.items };
 
     fn begin(&mut self) {
-        self.taken.clear();
+        self.from = self.to;
     }
 
     fn taken(&self) -> &[u8] {
-        self.taken.as_slice()
+        &self.bytes[self.from..self.to]
     }
 
     fn at(&self) -> u64 {
@@ -104,42 +136,46 @@ impl<R: Read> Taking for Source<R> {
     }
 
     fn peek(&mut self) -> Result<Option<u8>, Fault> {
-        match self.reader.peek() {
-            Ok(byte) => Ok(byte),
-            Err(error) => Err(input_fault(error)),
-        }
+        self.read_ahead()?;
+        Ok(self.bytes.get(self.to).copied())
     }
 
     fn take_some(&mut self, most: usize) -> Result<usize, Fault> {
-        if most == 0 {
-            return Ok(0);
-        }
-        let got = if most <= FEW {
-            let mut block = [0; FEW];
-            read_more(&mut self.reader, &mut self.taken, &mut block[..most])?
-        } else {
-            let mut block = [0; BLOCK];
-            read_more(&mut self.reader, &mut self.taken, &mut block[..most])?
-        };
+        self.read_ahead()?;
+        let got = most.min(self.bytes.len() - self.to);
+        self.to += got;
         self.at = self.at.saturating_add(got as u64);
         Ok(got)
     }
 }
 
-// Reads at least one byte by way of `block`, unless the input ends, and appends what was read. Memory
-// is reserved first, so that no byte is lost.
-fn read_more<R: Read>(reader: &mut R, taken: &mut Vec<u8>, block: &mut [u8]) -> Result<usize, Fault>
-    requires some { 0 < length block.old }
-    requires most { length block.old ≤ 4096 }
-    ensures kept { Stays taken.old.items (R.left reader.old) taken.new.items (R.left reader.new) }
+// Removes the first `count` bytes.
+fn forget(bytes: &mut Vec<u8>, count: usize)
+    requires { count ≤ length bytes.old.items }
+    ensures { bytes.new.items ≡ drop count bytes.old.items }
 {
-    taken.reserve(block.len())?;
-    let got = match reader.read_some(block) {
+    if count == 0 {
+        return;
+    }
+    let left = bytes.len() - count;
+    bytes.copy_within(count.., 0);
+    bytes.truncate(left);
+}
+
+// Reads at least one byte, unless the input ends, and appends what was read. Memory is reserved first,
+// so that no byte is lost.
+fn read_more<R: Read>(reader: &mut R, bytes: &mut Vec<u8>) -> Result<(), Fault>
+    ensures read { ReadsMore bytes.old.items (R.left reader.old) bytes.new.items
+        (R.left reader.new) }
+{
+    bytes.reserve(BLOCK)?;
+    let mut block = [0; BLOCK];
+    let got = match reader.read_some(&mut block) {
         Ok(got) => got,
         Err(error) => return Err(input_fault(error)),
     };
-    match taken.extend_from_slice(&block[..got]) {
-        Ok(()) => Ok(got),
+    match bytes.extend_from_slice(&block[..got]) {
+        Ok(()) => Ok(()),
         Err(_) => unreachable!(),
     }
 }
@@ -173,7 +209,7 @@ pub fn take_bytes<S: Taking>(source: &mut S, count: usize) -> Result<(), Fault>
 {
     let mut left = count;
     while left > 0 {
-        let got = source.take_some(left.min(BLOCK))?;
+        let got = source.take_some(left)?;
         if got == 0 {
             return Err(Fault::EndOfInput(left as u64));
         }

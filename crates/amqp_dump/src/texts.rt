@@ -52,12 +52,20 @@ pub(crate) fn bad_payload(kind: Kind, code: u8, payload: &[u8]) -> Option<usize>
 }
 
 /// Decodes a scalar. Its bytes begin with its format code, unless it is an element of an array.
-pub(crate) fn value_of(
-    alloc: Global,
-    bytes: &[u8],
-    code: u8,
-    in_array: bool,
-) -> Result<Value, Fault>
+///
+/// # Errors
+///
+/// Returns [`Fault::OutOfMemory`] if an allocation fails, and [`Fault::Input`] if the bytes are no
+/// encoded value.
+///
+/// # Memory
+///
+/// The value; for an element of an array a copy of its bytes.
+///
+/// # Example
+///
+/// `5207` is the uint 7, as is `07` in an array of elements with the code 52.
+pub fn value_of(alloc: Global, bytes: &[u8], code: u8, in_array: bool) -> Result<Value, Fault>
     ensures value { IfOk result (λ v.
         Spells 256 (if in_array then code ∷ bytes.now else bytes.now) (tree_of v)) }
 {
@@ -114,11 +122,19 @@ pub(crate) fn piece_value(alloc: Global, kind: Kind, payload: &[u8]) -> Result<V
 
 /// Appends the text of a value as `Display` writes it, with the characters escaped that a terminal
 /// takes as commands. `scratch` gets the text before that.
-pub(crate) fn push_value(
-    text: &mut String,
-    scratch: &mut String,
-    value: &Value,
-) -> Result<(), Fault>
+///
+/// # Errors
+///
+/// Returns [`Fault::OutOfMemory`] if an allocation fails.
+///
+/// # Memory
+///
+/// The text, twice.
+///
+/// # Example
+///
+/// The string of the byte 1b gives `"\u{1b}"`.
+pub fn push_value(text: &mut String, scratch: &mut String, value: &Value) -> Result<(), Fault>
     ensures text { OnOk result
         (string_bytes text.new ≡ string_bytes text.old ++ safe (shown (tree_of value.now))) }
 {

@@ -10,7 +10,7 @@ use arguments::{Arguments, command, read_arguments};
 use progress::Progress;
 use std::alloc::Global;
 use std::env::Env;
-use std::io::{BufReader, IsTerminal};
+use std::io::IsTerminal;
 use std::process::ExitCode;
 use std::rt::Files;
 use std::time::Clock;
@@ -120,9 +120,6 @@ fn over_bytes<R: Print + AllocGlobal, I: io::Read + Drop>(
     selector: &Option<Selector>,
 ) -> Result<Report, Fault> {
     let alloc = rt.alloc();
-    let Ok(input) = BufReader::new(alloc, input) else {
-        return Err(Fault::OutOfMemory);
-    };
     let mut source = Source::new(alloc, IoReader::new(input));
     let mut output = io::writer(rt);
     let report = run(
