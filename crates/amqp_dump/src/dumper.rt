@@ -1,0 +1,282 @@
+//! Goes over an input and shows it.
+
+use crate::fault::{Fault, Found};
+use crate::item::{Item, ItemKind};
+use crate::json::{Json, push_json_fault};
+use crate::level::{Level, LevelKind};
+use crate::line::Line;
+use crate::marks::Marks;
+use crate::options::{Form, Options};
+use crate::scanner::Scanner;
+use crate::select::Selector;
+use crate::source::Taking;
+use crate::summary::Summary;
+use crate::text::push_text;
+use crate::tree::{push_fault, push_line};
+use std::alloc::Global;
+use std::io::Write;
+
+// The bytes of text that are written at once, or a line more.
+const BUFFER: usize = 8192;
+
+/// What a run has found.
+#[derive(Drop)]
+pub struct Report {
+    /// The number of faults.
+    pub faults: u64,
+    /// The first fault.
+    pub first: Option<Found>,
+    /// The counts.
+    pub summary: Summary,
+}
+
+// What a run remembers.
+#[derive(Drop)]
+struct Dumper {
+    alloc: Global,
+    options: Options,
+    scanner: Scanner,
+    marks: Marks,
+    json: Json,
+    line: Line,
+    // The depth of the value that is selected, if one is.
+    selected: Option<usize>,
+    // Whether the rest of the frame has no JSON.
+    is_muted: bool,
+    report: Report,
+}
+
+/// Shows an input: the values that `selector` selects, or all.
+///
+/// Goes on at the next frame after a fault in a frame, and ends at any other fault.
+///
+/// # Errors
+///
+/// Returns [`Fault::Input`] if a read fails, [`Fault::Output`] if a write fails, and
+/// [`Fault::OutOfMemory`] if an allocation fails. What was shown before is written first. A fault of
+/// the input is no error: it is shown, and counted in the report.
+///
+/// # Memory
+///
+/// One entry for each open value, one item, and 8 KiB of text. A JSON object is kept until it is
+/// whole.
+pub fn run<S: Taking, W: Write>(
+    alloc: Global,
+    source: &mut S,
+    writer: &mut W,
+    options: &Options,
+    selector: Option<&Selector>,
+) -> Result<Report, Fault> {
+    let piece = match options.form {
+        Form::Tree => options.most_bytes,
+        _ => 4096,
+    };
+    let mut dumper = Dumper {
+        alloc,
+        options: *options,
+        scanner: Scanner::new(alloc, options.frames, piece),
+        marks: Marks::new(alloc),
+        json: Json::new(alloc),
+        line: Line::new(alloc, options.color),
+        selected: None,
+        is_muted: false,
+        report: Report {
+            faults: 0,
+            first: None,
+            summary: Summary::new(alloc)?,
+        },
+    };
+    let result = dumper.show_all(source, writer, selector);
+    dumper.write(writer)?;
+    result?;
+    if writer.flush().is_err() {
+        return Err(Fault::Output);
+    }
+    dumper.report.summary.end_root();
+    Ok(dumper.report)
+}
+
+impl Dumper {
+    // Shows all items.
+    fn show_all<S: Taking, W: Write>(
+        &mut self,
+        source: &mut S,
+        writer: &mut W,
+        selector: Option<&Selector>,
+    ) -> Result<(), Fault> {
+        for _ in 0..u64::MAX {
+            if !self.step(source, selector)? {
+                break;
+            }
+            if self.line.text.len() >= BUFFER {
+                self.write(writer)?;
+            }
+        }
+        Ok(())
+    }
+
+    // Writes the text.
+    fn write<W: Write>(&mut self, writer: &mut W) -> Result<(), Fault> {
+        let result = writer.write_all(self.line.text.as_bytes());
+        self.line.text.clear();
+        match result {
+            Ok(()) => Ok(()),
+            Err(_) => Err(Fault::Output),
+        }
+    }
+
+    // Shows the next item. Returns false at the end.
+    fn step<S: Taking>(
+        &mut self,
+        source: &mut S,
+        selector: Option<&Selector>,
+    ) -> Result<bool, Fault> {
+        let ended = self.scanner.levels().is_empty() && !self.scanner.is_in_payload();
+        if ended && self.scanner.roots() >= self.options.most_values {
+            return Ok(false);
+        }
+        match self.scanner.next(source) {
+            Ok(item) if item.kind == ItemKind::End => Ok(false),
+            Ok(item) => {
+                self.show(item, source.taken(), selector)?;
+                Ok(true)
+            }
+            Err(fault) => {
+                let found = self.found(source, fault)?;
+                self.show_fault(&found, source.taken())?;
+                Ok(self.go_on(found))
+            }
+        }
+    }
+
+    // Shows an item.
+    fn show(&mut self, item: Item, bytes: &[u8], selector: Option<&Selector>) -> Result<(), Fault> {
+        self.report.summary.add(item, bytes.len());
+        if self.options.form == Form::Tree {
+            self.marks.add(item, self.scanner.levels(), bytes)?;
+        }
+        if !self.is_selected(item, selector)? {
+            return Ok(());
+        }
+        let levels = self.scanner.levels();
+        let in_payload = self.scanner.is_in_payload();
+        let is_text_of_frame = self.options.form == Form::Text && is_in_frame(levels);
+        let base = self.selected.unwrap_or(usize::from(is_text_of_frame));
+        match self.options.form {
+            Form::Tree => push_line(
+                self.alloc,
+                &mut self.line,
+                item,
+                levels,
+                bytes,
+                self.marks.found(),
+                &self.options,
+            )?,
+            Form::Text => push_text(
+                self.alloc,
+                &mut self.line,
+                item,
+                base,
+                levels,
+                bytes,
+                in_payload,
+            )?,
+            Form::Json if self.is_muted => {
+                self.is_muted = item.kind != ItemKind::Closes(LevelKind::Frame);
+            }
+            Form::Json => {
+                let text = &mut self.line.text;
+                self.json.add(text, item, base, levels, bytes, in_payload)?;
+            }
+        }
+        if selector.is_some() && item.ends_value(in_payload) && self.selected == Some(item.depth) {
+            self.selected = None;
+        }
+        Ok(())
+    }
+
+    // Whether the item is in a value that is selected.
+    fn is_selected(&mut self, item: Item, selector: Option<&Selector>) -> Result<bool, Fault> {
+        let Some(selector) = selector else {
+            return Ok(true);
+        };
+        if self.selected.is_some() {
+            return Ok(true);
+        }
+        if !item.kind.begins_value() {
+            return Ok(false);
+        }
+        let levels = self.scanner.levels();
+        let (outer, _) = levels.split_at(item.depth.min(levels.len()));
+        let descriptor = match item.kind {
+            ItemKind::Described(code) => code,
+            _ => None,
+        };
+        let is_selected = selector.selects(self.alloc, self.scanner.roots(), outer, descriptor)?;
+        if is_selected {
+            self.selected = Some(item.depth);
+        }
+        Ok(is_selected)
+    }
+
+    // Returns what is known of a fault, or the fault itself if the machine is its cause.
+    fn found<S: Taking>(&self, source: &mut S, fault: Fault) -> Result<Found, Fault> {
+        if fault.is_of_machine() {
+            return Err(fault);
+        }
+        let at = self.scanner.fault_at(source, fault);
+        let inside = at.saturating_sub(self.scanner.start) as usize;
+        let byte = match source.taken().get(inside).copied() {
+            Some(byte) => Some(byte),
+            None => source.peek()?,
+        };
+        let (roots, levels) = (self.scanner.roots(), self.scanner.levels());
+        Found::new(self.alloc, fault, at, byte, roots, levels)
+    }
+
+    // Shows a fault.
+    fn show_fault(&mut self, found: &Found, bytes: &[u8]) -> Result<(), Fault> {
+        self.report.summary.add_fault(bytes.len());
+        match self.options.form {
+            Form::Tree => {
+                let depth = self.scanner.levels().len();
+                let start = self.scanner.start;
+                push_fault(
+                    self.alloc,
+                    &mut self.line,
+                    found,
+                    start,
+                    bytes,
+                    depth,
+                    &self.options,
+                )
+            }
+            Form::Text => self.line.push("\n"),
+            Form::Json => {
+                self.json.clear();
+                self.is_muted = true;
+                push_json_fault(&mut self.line.text, found)
+            }
+        }
+    }
+
+    // Counts a fault. Returns whether the run goes on.
+    fn go_on(&mut self, found: Found) -> bool {
+        let is_end = matches!(found.fault, Fault::EndOfInput(_));
+        self.report.faults = self.report.faults.saturating_add(1);
+        if self.report.first.is_none() {
+            self.report.first = Some(found);
+        }
+        self.marks.reset();
+        self.selected = None;
+        self.scanner.recover() && !is_end
+    }
+}
+
+// Whether a frame is open.
+fn is_in_frame(levels: &[Level]) -> bool {
+    match levels.first() {
+        Some(level) => level.kind == LevelKind::Frame,
+        None => false,
+    }
+}

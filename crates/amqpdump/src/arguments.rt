@@ -1,0 +1,140 @@
+//! The arguments of the program.
+
+use amqp_dump::{Form, Options};
+use clap::{Arg, ArgAction, ArgMatches, Command, Error, value_parser};
+use std::alloc::Global;
+
+/// What the arguments ask for.
+#[derive(Drop)]
+pub struct Arguments<'a> {
+    /// The file that is read, or standard input.
+    pub file: Option<&'a str>,
+    /// Whether the input is in hexadecimal.
+    pub hex: bool,
+    /// The path to the values that are shown.
+    pub path: Option<&'a str>,
+    /// Whether counts are shown at the end.
+    pub summary: bool,
+    /// What is shown, and how.
+    pub options: Options,
+}
+
+/// Returns the description of the arguments.
+pub fn command(alloc: Global) -> Result<Command<'static>, Error> {
+    let command = Command::new(alloc, "amqpdump")
+        .version("0.1.0")
+        .about("Shows what is in AMQP bytes")
+        .arg(
+            Arg::new(alloc, "file")
+                .value_name("FILE")
+                .help("A file, or else standard input"),
+        )?
+        .arg(flag(
+            alloc,
+            "hex",
+            "The input is hexadecimal (white space and 0x are ignored)",
+        ))?
+        .arg(flag(
+            alloc,
+            "frames",
+            "The input is protocol headers and frames of a connection",
+        ))?;
+    let command = with_forms(alloc, command)?;
+    with_limits(alloc, command)
+}
+
+fn flag(alloc: Global, name: &'static str, help: &'static str) -> Arg<'static> {
+    Arg::new(alloc, name)
+        .long(name)
+        .action(ArgAction::SetTrue)
+        .help(help)
+}
+
+// Adds the forms of output.
+fn with_forms(alloc: Global, command: Command<'static>) -> Result<Command<'static>, Error> {
+    let tree = flag(
+        alloc,
+        "tree",
+        "A line for each node (the default on a terminal)",
+    )
+    .conflicts_with_all(["text", "json"].as_slice())?;
+    let text = flag(
+        alloc,
+        "text",
+        "A line for each encoded value (the default elsewhere)",
+    )
+    .conflicts_with("json")?;
+    let json = flag(alloc, "json", "A JSON object for each encoded value");
+    Ok(command.arg(tree)?.arg(text)?.arg(json)?)
+}
+
+// Adds the limits and the colors.
+fn with_limits(alloc: Global, command: Command<'static>) -> Result<Command<'static>, Error> {
+    let select = Arg::new(alloc, "select")
+        .long("select")
+        .value_name("PATH")
+        .help("Show only what is there, as 0x73.message-id or /2/0");
+    let summary = flag(alloc, "summary", "End with counts by kind, depth and size");
+    let depth = Arg::new(alloc, "max-depth")
+        .long("max-depth")
+        .value_name("N")
+        .value_parser(value_parser!(u32))
+        .help("In a tree, show no line of more than N levels");
+    let bytes = Arg::new(alloc, "max-bytes")
+        .long("max-bytes")
+        .value_name("N")
+        .value_parser(value_parser!(u32))
+        .help("In a tree, show at most N bytes of a line and of a payload");
+    let limit = Arg::new(alloc, "limit")
+        .long("limit")
+        .value_name("N")
+        .value_parser(value_parser!(u64))
+        .help("Read at most N values or frames");
+    let color = Arg::new(alloc, "color")
+        .long("color")
+        .value_name("WHEN")
+        .value_parser(["auto", "always", "never"].as_slice())
+        .default_value("auto")
+        .help("Write colors");
+    let command = command.arg(select)?.arg(summary)?.arg(depth)?;
+    Ok(command.arg(bytes)?.arg(limit)?.arg(color)?)
+}
+
+/// Returns what the arguments ask for.
+pub fn read_arguments<'a>(matches: &ArgMatches<'a>, is_terminal: bool) -> Arguments<'a> {
+    let mut options = Options::tree();
+    options.form = form_of(matches, is_terminal);
+    options.frames = matches.get_flag("frames");
+    options.color = match matches.get_str("color") {
+        Some("always") => true,
+        Some("never") => false,
+        _ => is_terminal,
+    };
+    if let Some(depth) = matches.get_one::<u32>("max-depth") {
+        options.most_levels = depth as usize;
+    }
+    if let Some(bytes) = matches.get_one::<u32>("max-bytes") {
+        options.most_bytes = bytes as usize;
+        options.column = bytes as usize;
+    }
+    if let Some(limit) = matches.get_one::<u64>("limit") {
+        options.most_values = limit;
+    }
+    Arguments {
+        file: matches.get_str("file"),
+        hex: matches.get_flag("hex"),
+        path: matches.get_str("select"),
+        summary: matches.get_flag("summary"),
+        options,
+    }
+}
+
+fn form_of(matches: &ArgMatches<'_>, is_terminal: bool) -> Form {
+    if matches.get_flag("json") {
+        Form::Json
+    } else if matches.get_flag("tree") || (is_terminal && !matches.get_flag("text")) {
+        Form::Tree
+    } else {
+        Form::Text
+    }
+}
