@@ -3,7 +3,7 @@
 use crate::names::Type;
 
 /// The types, in the order of their numeric descriptors.
-pub(crate) static TYPES: [Type; 36] = [
+pub(crate) static TYPES: [Type; 40] = [
     Type {
         code: 0x10,
         name: "open",
@@ -188,6 +188,30 @@ pub(crate) static TYPES: [Type; 36] = [
             "dynamic-node-properties",
             "capabilities",
         ],
+    },
+    Type {
+        code: 0x2b,
+        name: "delete-on-close",
+        form: "list",
+        fields: &[],
+    },
+    Type {
+        code: 0x2c,
+        name: "delete-on-no-links",
+        form: "list",
+        fields: &[],
+    },
+    Type {
+        code: 0x2d,
+        name: "delete-on-no-messages",
+        form: "list",
+        fields: &[],
+    },
+    Type {
+        code: 0x2e,
+        name: "delete-on-no-links-or-messages",
+        form: "list",
+        fields: &[],
     },
     Type {
         code: 0x30,

@@ -1,8 +1,8 @@
 //! Dumps each line of standard input: `tree`, `text`, `json` or `PATH` (a selected tree), and bytes
-//! in hexadecimal.
+//! in hexadecimal. The line `names` prints the described types of the standard.
 #![tactic(auto)]
 
-use amqp_dump::{Fault, Form, HexReader, Options, Selector, Source, run};
+use amqp_dump::{Fault, Form, HexReader, Options, Selector, Source, names, run};
 use amqp_frame::IoReader;
 use std::alloc::Global;
 use std::process::ExitCode;
@@ -25,12 +25,38 @@ fn show_line<R: Print + AllocGlobal>(rt: &R, line: &str) -> Result<(), Fault> {
     if rt.println(line).is_err() {
         return Err(Fault::Output);
     }
-    let shown = dump(rt.alloc(), form, digits)?;
+    let shown = match form {
+        "names" => all_names(rt.alloc())?,
+        _ => dump(rt.alloc(), form, digits)?,
+    };
     let text = std::str::from_utf8(shown.as_slice()).unwrap_or("no text");
     if rt.print(text).is_err() {
         return Err(Fault::Output);
     }
     Ok(())
+}
+
+// Returns the names of the types and of their fields. Each name leads back to its descriptor.
+fn all_names(alloc: Global) -> Result<Vec<u8>, Fault> {
+    let mut text = String::new(alloc);
+    for code in 0..256 {
+        let Some(found) = names::type_of(code) else {
+            continue;
+        };
+        let (name, form) = (found.name, found.form);
+        let symbol = format!(in alloc; "amqp:{name}:{form}")?;
+        let is_right = found.code == code
+            && names::code_of_name(name) == Some(code)
+            && names::code_of_symbol(symbol.as_str()) == Some(code);
+        write!(text, "0x{code:02x} {symbol} {is_right}:")?;
+        for field in found.fields {
+            write!(text, " {field}")?;
+        }
+        text.push_str("\n")?;
+    }
+    let mut shown = Vec::new(alloc);
+    shown.extend_from_slice(text.as_bytes())?;
+    Ok(shown)
 }
 
 // Returns what a dump of the bytes writes, and the fault that it finds.
