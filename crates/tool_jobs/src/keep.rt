@@ -45,11 +45,7 @@ fn send(encoder: &mut Encoder, message: &Message, digest: &mut Digest) -> Result
 }
 
 // Writes a part. Its length is that of the bytes.
-fn write<T: Serialize>(
-    encoder: &mut Encoder,
-    part: &T,
-    digest: &mut Digest,
-) -> Result<(), Error> {
+fn write<T: Serialize>(encoder: &mut Encoder, part: &T, digest: &mut Digest) -> Result<(), Error> {
     let bytes = encoder.encode(part)?;
     digest.number(bytes.len() as u64);
     digest.bytes(bytes);
