@@ -20,7 +20,7 @@ pub struct Arguments<'a> {
 }
 
 /// Returns the description of the arguments.
-pub fn command(alloc: Global) -> Result<Command<'static>, Error> {
+pub fn command<'a>(alloc: Global) -> Result<Command<'a>, Error> {
     let command = Command::new(alloc, "amqpdump")
         .version("0.1.0")
         .about("Shows what is in AMQP bytes")
@@ -43,7 +43,7 @@ pub fn command(alloc: Global) -> Result<Command<'static>, Error> {
     with_limits(alloc, command)
 }
 
-fn flag(alloc: Global, name: &'static str, help: &'static str) -> Arg<'static> {
+fn flag<'a>(alloc: Global, name: &'a str, help: &'a str) -> Arg<'a> {
     Arg::new(alloc, name)
         .long(name)
         .action(ArgAction::SetTrue)
@@ -51,7 +51,7 @@ fn flag(alloc: Global, name: &'static str, help: &'static str) -> Arg<'static> {
 }
 
 // Adds the forms of output.
-fn with_forms(alloc: Global, command: Command<'static>) -> Result<Command<'static>, Error> {
+fn with_forms<'a>(alloc: Global, command: Command<'a>) -> Result<Command<'a>, Error> {
     let tree = flag(
         alloc,
         "tree",
@@ -69,7 +69,7 @@ fn with_forms(alloc: Global, command: Command<'static>) -> Result<Command<'stati
 }
 
 // Adds the limits and the colors.
-fn with_limits(alloc: Global, command: Command<'static>) -> Result<Command<'static>, Error> {
+fn with_limits<'a>(alloc: Global, command: Command<'a>) -> Result<Command<'a>, Error> {
     let select = Arg::new(alloc, "select")
         .long("select")
         .value_name("PATH")

@@ -142,7 +142,8 @@ fn over_bytes<R: Print + AllocGlobal, I: io::Read + Drop>(
 fn status<R: Eprint + AllocGlobal>(rt: &R, ended: Result<Report, Fault>) -> u8 {
     match ended {
         Ok(report) => {
-            let Some(first) = report.first else {
+            let Report { first, .. } = report;
+            let Some(first) = first else {
                 return 0;
             };
             if let Ok(text) = first.text(rt.alloc()) {

@@ -2,7 +2,7 @@
 //! in hexadecimal. The line `names` prints the described types of the standard.
 #![tactic(auto)]
 
-use amqp_dump::{Fault, Form, HexReader, Options, Selector, Source, names, run};
+use amqp_dump::{Fault, Form, HexReader, Options, Report, Selector, Source, names, run};
 use amqp_frame::IoReader;
 use std::alloc::Global;
 use std::process::ExitCode;
@@ -74,9 +74,10 @@ fn dump(alloc: Global, form: &str, digits: &str) -> Result<Vec<u8>, Fault> {
     let mut source = Source::new(alloc, IoReader::new(&mut reader));
     let mut shown = Vec::new(alloc);
     let report = run(alloc, &mut source, &mut shown, &options, selector.as_ref())?;
+    let Report { first, .. } = report;
     drop(source);
     if options.form == Form::Text {
-        if let Some(found) = report.first {
+        if let Some(found) = first {
             shown.extend_from_slice(found.text(alloc)?.as_bytes())?;
             shown.push(b'\n')?;
         }
