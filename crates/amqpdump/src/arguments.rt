@@ -57,7 +57,8 @@ fn with_forms<'a>(alloc: Global, command: Command<'a>) -> Result<Command<'a>, Er
         "tree",
         "A line for each node (the default on a terminal)",
     )
-    .conflicts_with_all(["text", "json"].as_slice())?;
+    .conflicts_with("text")?
+    .conflicts_with("json")?;
     let text = flag(
         alloc,
         "text",
