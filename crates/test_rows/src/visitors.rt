@@ -1,14 +1,13 @@
 //! Types that are read by a visitor: the result is the `Debug` text of what was read.
 
 ghost use Rattle.std.specs.Prelude.{◌≡◌, ◌⊎◌, ℕ, List, [], ◌∷◌, Option};
-ghost use Rattle.amqp_data.specs.Fixed.{dec32_bytes};
 ghost use Rattle.amqp_data.specs.Text.{symbol_text};
 ghost use Rattle.amqp_ser.specs.Tree.{Tree, scalar, uint, symbol, list, trees_of};
-ghost use Rattle.amqp_de.specs.Events.{seq_event, enum_event, bytes_event, ByList};
+ghost use Rattle.amqp_de.specs.Events.{seq_event, enum_event, ByList};
 ghost use Rattle.amqp_de.specs.Fields.{There};
 ghost use Rattle.amqp_de.specs.Reads.{Always};
 
-use amqp_data::{Dec32, Error, Symbol, markers};
+use amqp_data::{Error, Symbol};
 use amqp_de::EnumAccessOf;
 use amqp_de::de::{
     self, Deserialize, DeserializeCompounds, DeserializeError, Deserializer as _, EnumAccess,
@@ -24,7 +23,6 @@ pub fn read(alloc: Global, reader: &str, value: Value) -> Result<String, Error> 
         "point" => Ok(format!(in alloc; "{:?}", from_value::<Point>(alloc, value)?)?),
         "light" => Ok(format!(in alloc; "{:?}", read_light(alloc, value)?)?),
         "name" => Ok(format!(in alloc; "{:?}", read_name(alloc, value)?)?),
-        "decimal" => Ok(format!(in alloc; "{:?}", read_decimal(alloc, value)?)?),
         "tuple_variant" => Ok(format!(in alloc; "{:?}", without_fields(alloc)?)?),
         "struct_variant" => Ok(format!(in alloc; "{:?}", with_fields(alloc, value)?)?),
         _ => Err(Error::Message("no such reader")),
@@ -173,33 +171,4 @@ impl Visitor for NameVisitor {
 
 fn read_name(alloc: Global, value: Value) -> Result<Symbol, Error> {
     Deserializer::new(alloc, value).deserialize_enum("Light", NameVisitor { alloc })
-}
-
-/// Visitor that reads a decimal32 from its bytes.
-#[derive(Drop)]
-struct DecimalVisitor;
-
-impl Visitor for DecimalVisitor {
-    type Value = Dec32;
-
-    ghost gives = { λ _ e x. e ≡ bytes_event (dec32_bytes x) };
-
-    ghost represents = { λ _ e x. e ≡ bytes_event (dec32_bytes x) };
-
-    ghost same = { λ x y. x ≡ y };
-
-    fn refuses(&self, visit: Visit) -> bool {
-        !matches!(visit, Visit::Bytes)
-    }
-
-    fn visit_bytes<E: DeserializeError>(self, bytes: &[u8]) -> Result<Dec32, E> {
-        match Dec32::try_from(bytes) {
-            Ok(decimal) => Ok(decimal),
-            Err(_) => Err(E::invalid_value()),
-        }
-    }
-}
-
-fn read_decimal(alloc: Global, value: Value) -> Result<Dec32, Error> {
-    Deserializer::new(alloc, value).deserialize_newtype_struct(markers::DECIMAL32, DecimalVisitor)
 }
