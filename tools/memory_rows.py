@@ -29,7 +29,7 @@ REFUSED = "<out of memory>"
 HEADERS = 167
 # The requests that the calls of the rows of `read` make in one pass, and for the tables of headers of the lazy values that are read
 # and written on the way.
-ONE_PASS = 296
+ONE_PASS = 266
 # Two for the hashes of each of two maps that are decoded. For each of the four calls of the rows of `read`: two for the hashes of each
 # of two maps, decoded or made by `to_value`; two for an index; one for each of two lists. And 14 of tables of headers, and 5 in each of
 # three passes over the list of lists. And the requests of the calls of the rows of `read` that read in one pass.

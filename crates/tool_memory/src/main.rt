@@ -46,6 +46,8 @@
 //! | the same | `read_alternatives`, `Alternatives::read_after`, `Either::read_after`, `Never::read_after` |
 //! | the same | `build`, `build_composite`, `build_named`, `build_fields_map`, `build_composite_map`, `build_named_map`, `build_encoded`, `build_composite_encoded`, `build_named_encoded` |
 //! | the same | `read_composite_type_encoded`, `read_named_encoded`, `Composite::read_body_encoded`, `Defaulted::read_fields` |
+//! | the same | `read_fields_map_encoded`, `read_composite_map_encoded`, `build_fields_map_encoded`, `build_composite_map_encoded` |
+//! | the same | `FieldSeeds::read_named_fields`, `Required::read_named_fields`, `Optional::read_named_fields` |
 //! | the same | `read_alternatives_encoded`, `Alternatives::read_after_encoded`, `Either::read_after_encoded` |
 //! | the same | `FieldSeeds::read_elements`, `Required::read_elements`, `Optional::read_elements`, `Elements::new` |
 //! | the same | `FieldSeeds::read_entries`, `Required::read_entries`, `Optional::read_entries`, `Entries::new`, `DeserializeSeed::deserialize` |
