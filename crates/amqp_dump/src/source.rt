@@ -17,8 +17,8 @@ const BLOCK: usize = 4096;
 /// # Implementer notes
 ///
 /// `left` is the bytes that were not taken, if the source knows them, and `held` the bytes that were
-/// taken since the last call of `begin`. No call but `begin` loses a byte: what is held and what is
-/// left, together, stay as they are.
+/// taken since the last call of `begin`. Only `begin` drops bytes: every other call moves bytes from
+/// `left` to the end of `held`.
 pub trait Taking {
     /// The bytes that were not taken, if the source knows them.
     ghost left: { Self → Option (List ℕ) };

@@ -57,7 +57,7 @@ pub(crate) fn push_text(
     Ok(())
 }
 
-// Returns what stands between the values of the innermost level before the one that begins.
+// Returns the separator before the next value of the innermost level.
 fn separator(outer: &[Level]) -> &'static str {
     let Some(level) = outer.last() else {
         return "";

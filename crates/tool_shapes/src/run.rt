@@ -71,8 +71,9 @@ fn messaged(alloc: Global, op: u32, times: u64) -> u64
 ///
 /// Operation 0 computes sizes, 1 writes bytes, 2 hashes the bytes, 3 builds untyped values, 4 writes
 /// texts, 5 decodes untyped values from the bytes, 6 deserializes values from untyped values, and 7
-/// writes bytes by one encoder, after a first time. The result is the sum of `times` sizes or lengths, the hash, or the number of values. For any
-/// other work or operation, and if a call fails, it is 0.
+/// writes bytes by one encoder, after a first time. The result is the sum of `times` sizes or
+/// lengths, the hash, or the number of values. For any other work or operation, and if a call fails,
+/// it is 0.
 ///
 /// # Memory
 /// Allocates from `alloc`, and frees all of it before it returns.
