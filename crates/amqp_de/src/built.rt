@@ -121,7 +121,7 @@ pub fn build_named<T: FromParts, D: Deserializer, S: DeserializeSeed<Value = T::
 pub fn build_fields_map<
     T: NamedRecord + FromParts,
     D: Deserializer,
-    F: FieldSeeds<Values = T::Values>,
+    F: FieldSeeds<Values = T::Values> + Drop,
 >(alloc: Global, deserializer: D, fields: F) -> Result<T, D::Error>
     requires { F.names fields ≡ T.names }
     ensures read { Answers D.Error.is_out_of_memory
@@ -146,7 +146,7 @@ pub fn build_fields_map<
 pub fn build_composite_map<
     T: NamedRecord + FromParts,
     D: Deserializer,
-    F: FieldSeeds<Values = T::Values>,
+    F: FieldSeeds<Values = T::Values> + Drop,
 >(alloc: Global, deserializer: D, wanted: u64, fields: F) -> Result<T, D::Error>
     requires { F.names fields ≡ T.names }
     ensures read { Answers D.Error.is_out_of_memory
@@ -171,7 +171,7 @@ pub fn build_composite_map<
 pub fn build_named_map<
     T: NamedRecord + FromParts,
     D: Deserializer,
-    F: FieldSeeds<Values = T::Values>,
+    F: FieldSeeds<Values = T::Values> + Drop,
 >(alloc: Global, deserializer: D, wanted: &str, fields: F) -> Result<T, D::Error>
     requires { F.names fields ≡ T.names }
     ensures read { Answers D.Error.is_out_of_memory

@@ -19,15 +19,18 @@ use std::marker::PhantomData;
 
 /// The fields to read, in order, with their names. The macro [`named!`] builds them.
 ///
+/// `Drop` is no supertrait, and `Values` needs none: each field would bring that of all fields after
+/// it into a check. The functions that own the fields or drop the values ask for it.
+///
 /// # Implementer notes
 /// Required methods: `read_elements` and `read_entries`. They must return values that `reads`
 /// relates to the elements or entries, and may return an error other than out of memory only if
 /// there are none. From the images of restorable fields they must read values with the same
 /// contents, or run out of memory. In a list, absent fields at the end may be left out. In a map,
 /// all absent fields are left out, and the law applies if the names are distinct.
-pub trait FieldSeeds: Sized + Drop {
+pub trait FieldSeeds: Sized {
     /// The values of the fields: [`FieldValues`] of each and the others, and `()` after the last.
-    type Values: Drop;
+    type Values;
 
     /// Which elements or entries are read as which values.
     ghost reads: { Self → Self.Values → FieldSource → Type 0 };

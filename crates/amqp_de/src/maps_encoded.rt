@@ -48,7 +48,7 @@ fn read_distinct<F: FieldSeeds>(
 /// # Example
 /// For `named! { "x" }`, the code `c1` and the bytes `0602a101785001`, returns the part 1.
 #[inline(always)]
-pub fn read_fields_map_encoded<T: NamedRecord, F: FieldSeeds<Values = T::Values>>(
+pub fn read_fields_map_encoded<T: NamedRecord, F: FieldSeeds<Values = T::Values> + Drop>(
     alloc: Global,
     code: u8,
     input: &mut &[u8],
@@ -80,7 +80,7 @@ pub fn read_fields_map_encoded<T: NamedRecord, F: FieldSeeds<Values = T::Values>
 /// For `1`, `named! { "x" }`, the code `00` and the bytes `5301c10602a101785001`, returns the part 1.
 /// With `2`, gives up.
 #[inline(always)]
-pub fn read_composite_map_encoded<T: NamedRecord, F: FieldSeeds<Values = T::Values>>(
+pub fn read_composite_map_encoded<T: NamedRecord, F: FieldSeeds<Values = T::Values> + Drop>(
     alloc: Global,
     code: u8,
     input: &mut &[u8],
@@ -115,13 +115,10 @@ pub fn read_composite_map_encoded<T: NamedRecord, F: FieldSeeds<Values = T::Valu
 /// For `named! { "x" }`, the code `c1` and the bytes `0602a101785001`, builds the value with the part
 /// 1.
 #[inline(always)]
-pub fn build_fields_map_encoded<T: NamedRecord + FromParts, F: FieldSeeds<Values = T::Values>>(
-    alloc: Global,
-    code: u8,
-    input: &mut &[u8],
-    depth: u16,
-    fields: F,
-) -> Result<T, GaveUp>
+pub fn build_fields_map_encoded<
+    T: NamedRecord + FromParts,
+    F: FieldSeeds<Values = T::Values> + Drop,
+>(alloc: Global, code: u8, input: &mut &[u8], depth: u16, fields: F) -> Result<T, GaveUp>
     requires { F.names fields ≡ T.names }
     ensures { IfOk result (λ y. ReadsPrefix
         (BuiltReading T.parts (λ t v. OnNamed (F.reads fields v) t)
@@ -144,7 +141,10 @@ pub fn build_fields_map_encoded<T: NamedRecord + FromParts, F: FieldSeeds<Values
 /// For `1`, `named! { "x" }`, the code `00` and the bytes `5301c10602a101785001`, builds the value
 /// with the part 1.
 #[inline(always)]
-pub fn build_composite_map_encoded<T: NamedRecord + FromParts, F: FieldSeeds<Values = T::Values>>(
+pub fn build_composite_map_encoded<
+    T: NamedRecord + FromParts,
+    F: FieldSeeds<Values = T::Values> + Drop,
+>(
     alloc: Global,
     code: u8,
     input: &mut &[u8],

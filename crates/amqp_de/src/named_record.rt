@@ -37,7 +37,7 @@ pub trait NamedRecord: Record {
 ///
 /// # Example
 /// For the map from the string `x` to the ubyte 1, with `named! { "x" }`, returns the part 1.
-pub fn read_fields_map<T: NamedRecord, D: Deserializer, F: FieldSeeds<Values = T::Values>>(
+pub fn read_fields_map<T: NamedRecord, D: Deserializer, F: FieldSeeds<Values = T::Values> + Drop>(
     alloc: Global,
     deserializer: D,
     fields: F,
@@ -62,12 +62,11 @@ pub fn read_fields_map<T: NamedRecord, D: Deserializer, F: FieldSeeds<Values = T
 /// For the map from the string `x` to the ubyte 1, described by the code 1, with `1` and
 /// `named! { "x" }`, returns the part 1. With `2`, the value is invalid.
 #[tactic(auto, unfolding(crate::specs::Fields::OnDescribed))]
-pub fn read_composite_map<T: NamedRecord, D: Deserializer, F: FieldSeeds<Values = T::Values>>(
-    alloc: Global,
-    deserializer: D,
-    wanted: u64,
-    fields: F,
-) -> Result<T::Values, D::Error>
+pub fn read_composite_map<
+    T: NamedRecord,
+    D: Deserializer,
+    F: FieldSeeds<Values = T::Values> + Drop,
+>(alloc: Global, deserializer: D, wanted: u64, fields: F) -> Result<T::Values, D::Error>
     requires { F.names fields ≡ T.names }
     ensures read { PartsOf T.parts D.Error.is_out_of_memory
         (λ x. OnDescribed (code wanted) (OnNamed (F.reads fields x)) (D.value deserializer)) result }
@@ -95,7 +94,7 @@ pub fn read_composite_map<T: NamedRecord, D: Deserializer, F: FieldSeeds<Values 
 /// For the map from the string `x` to the ubyte 1, described by the symbol `a:b`, with `"a:b"` and
 /// `named! { "x" }`, returns the part 1. With `"a:c"`, the value is invalid.
 #[tactic(auto, unfolding(crate::specs::Fields::OnDescribed))]
-pub fn read_named_map<T: NamedRecord, D: Deserializer, F: FieldSeeds<Values = T::Values>>(
+pub fn read_named_map<T: NamedRecord, D: Deserializer, F: FieldSeeds<Values = T::Values> + Drop>(
     alloc: Global,
     deserializer: D,
     wanted: &str,

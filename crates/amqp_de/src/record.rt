@@ -17,7 +17,7 @@ use std::alloc::Global;
 /// A type whose values are read by their parts, such as the fields of a struct.
 pub trait Record: Sized {
     /// The parts, as a seed returns them.
-    type Values;
+    type Values: Drop;
 
     /// The parts of a value.
     ghost parts: { Self → Self.Values };

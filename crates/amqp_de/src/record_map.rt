@@ -25,7 +25,7 @@ use std::alloc::Global;
 ///
 /// # Example
 /// For the map from the string `x` to the ubyte 1 and `named! { "x" }`, returns the part 1.
-pub fn read_map<T: Record, D: Deserializer, F: FieldSeeds<Values = T::Values>>(
+pub fn read_map<T: Record, D: Deserializer, F: FieldSeeds<Values = T::Values> + Drop>(
     alloc: Global,
     deserializer: D,
     fields: F,
@@ -59,7 +59,7 @@ pub fn read_described_map<
     T: Record,
     D: Deserializer,
     K: Describes,
-    F: FieldSeeds<Values = T::Values>,
+    F: FieldSeeds<Values = T::Values> + Drop,
 >(alloc: Global, deserializer: D, descriptor: &K, fields: F) -> Result<T::Values, D::Error>
     ensures read { PartsOf T.parts D.Error.is_out_of_memory
         (λ x. OnDescribed (K.wanted descriptor.now) (OnNamed (F.reads fields x))

@@ -134,7 +134,10 @@ impl<T: Deserialize> DeserializeSeed for TypeSeed<T> {
 pub struct ListSeed<F>(pub F);
 
 #[tactic(auto, using(crate::proofs::Lists::list_of_trees, crate::proofs::LeftOut::full, crate::proofs::LeftOut::cut), unfolding(crate::specs::Fields::OnFields, crate::specs::Present::short_list))]
-impl<F: FieldSeeds> DeserializeSeed for ListSeed<F> {
+impl<F: FieldSeeds + Drop> DeserializeSeed for ListSeed<F>
+where
+    F::Values: Drop,
+{
     type Value = F::Values;
 
     ghost reads = { λ s t x. OnFields (F.reads s.0 x) t };
@@ -190,7 +193,10 @@ impl<F: FieldSeeds> DeserializeSeed for ListSeed<F> {
 pub struct NamedSeed<F>(pub F);
 
 #[tactic(auto, using(crate::proofs::Lists::list_of_trees, crate::proofs::Lists::entries_in_pairs, crate::proofs::LeftOut::full, crate::proofs::LeftOut::cut, crate::proofs::LeftOut::entries), unfolding(crate::specs::Fields::OnNamed, crate::specs::Present::short_list, crate::specs::Present::short_map))]
-impl<F: FieldSeeds> DeserializeSeed for NamedSeed<F> {
+impl<F: FieldSeeds + Drop> DeserializeSeed for NamedSeed<F>
+where
+    F::Values: Drop,
+{
     type Value = F::Values;
 
     ghost reads = { λ s t x. OnNamed (F.reads s.0 x) t };
