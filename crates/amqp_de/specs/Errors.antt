@@ -23,7 +23,11 @@ IsError (message s) e = IsMessage s e
 
 -- The errors that have a kind: all but those of a reader and of malformed bytes.
 abbrev pub IsOfReading : Error → Type 0
-IsOfReading e = (k : ErrorKind) × IsError k e
+IsOfReading error.OutOfMemory = Unit {0}
+IsOfReading error.InvalidValue = Unit {0}
+IsOfReading error.TooLong = Unit {0}
+IsOfReading (error.Message words) = Unit {0}
+IsOfReading e = ⊥
 
 -- The kind of the error that a deserializer returns for an error of encoding.
 abbrev pub kind_of_unwritable : Error → ErrorKind

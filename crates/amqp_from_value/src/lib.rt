@@ -7,6 +7,7 @@
 mod access;
 mod deserializer;
 mod key_of_name;
+mod refusal;
 
 pub use access::{MapAccess, SeqAccess, VariantAccess};
 pub use deserializer::{Deserializer, Elements, Entries, from_value};
