@@ -5,7 +5,27 @@
 use amqp_dump::{Fault, Form, HexReader, Options, Report, Selector, Source, names, run};
 use amqp_frame::IoReader;
 use std::alloc::Global;
+use std::io::{self, Write};
 use std::process::ExitCode;
+
+// Holds what is written to it, and shows what was flushed.
+#[derive(Drop)]
+struct Flushed {
+    written: Vec<u8>,
+    shown: usize,
+}
+
+impl Write for Flushed {
+    fn write(&mut self, buf: &[u8]) -> io::Result<usize> {
+        self.written.extend_from_slice(buf)?;
+        Ok(buf.len())
+    }
+
+    fn flush(&mut self) -> io::Result<()> {
+        self.shown = self.written.len();
+        Ok(())
+    }
+}
 
 fn main(rt: HostRuntime) -> ExitCode {
     for line in rt.lines(rt.alloc()) {
@@ -59,7 +79,7 @@ fn all_names(alloc: Global) -> Result<Vec<u8>, Fault> {
     Ok(shown)
 }
 
-// Returns what a dump of the bytes writes, and the fault that it finds.
+// Returns what a dump of the bytes writes and flushes, and the fault that it finds.
 fn dump(alloc: Global, form: &str, digits: &str) -> Result<Vec<u8>, Fault> {
     let mut options = Options::tree();
     let mut selector = None;
@@ -72,10 +92,15 @@ fn dump(alloc: Global, form: &str, digits: &str) -> Result<Vec<u8>, Fault> {
     }
     let mut reader = HexReader::new(digits.as_bytes());
     let mut source = Source::new(alloc, IoReader::new(&mut reader));
-    let mut shown = Vec::new(alloc);
-    let report = run(alloc, &mut source, &mut shown, &options, selector.as_ref())?;
+    let mut writer = Flushed {
+        written: Vec::new(alloc),
+        shown: 0,
+    };
+    let report = run(alloc, &mut source, &mut writer, &options, selector.as_ref())?;
     let Report { first, .. } = report;
     drop(source);
+    let mut shown = writer.written;
+    shown.truncate(writer.shown);
     if options.form == Form::Text {
         if let Some(found) = first {
             shown.extend_from_slice(found.text(alloc)?.as_bytes())?;
