@@ -37,6 +37,7 @@ fn of_bytes(alloc: Global, call: &str, bytes: &[u8]) -> Result<String, Error> {
         "long" => values::long(alloc, bytes),
         "calls" => visits::calls(alloc, bytes),
         "code" => values::code(alloc, bytes),
+        "place" => values::place(alloc, bytes),
         "count" => values::count(alloc, bytes),
         "count_lazy" => values::count_lazy(alloc, bytes),
         "depth" => values::depth(alloc, bytes),
