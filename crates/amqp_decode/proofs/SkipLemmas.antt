@@ -107,18 +107,23 @@ module _ (f : FrameReader) where
   not-list : (n : ℕ) (s : List ℕ) → (skips f n s ≡ Some [] → ⊥) → parse_list f (n, s) ≡ None
   not-list n s h = rw (not-gathered n s h) refl
 
+  even-parse : (n : ℕ) (s : List ℕ) → n % 2 ≡ 0 → parse_map f (n, s) ≡ and_then (and_then (insert f (n / 2) s no_pairs) all) (λ ps. Some (tree.map ps))
+  even-parse n s even = rw even refl
+
+  half-skips : (n : ℕ) (s : List ℕ) → n % 2 ≡ 0 → rest_of (insert f (n / 2) s no_pairs) ≡ skips f n s
+  half-skips n s even =
+      let half : 2 * (n / 2) ≡ n = omega (arith, even) in
+      insert-skips (n / 2) s no_pairs ∙ ap (λ m. skips f m s) half
+
   map-found : (n : ℕ) (s : List ℕ) → n % 2 ≡ 0 → skips f n s ≡ Some [] → (t : Tree) × (parse_map f (n, s) ≡ Some t)
   map-found n s even e =
-      let half : 2 * (n / 2) ≡ n = omega (arith, even) in
-      let h = all-found (insert f (n / 2) s no_pairs) (insert-skips (n / 2) s no_pairs ∙ ap (λ m. skips f m s) half ∙ e) in
-      (tree.map h.0, rw (even, h.1) refl)
+      let h = all-found (insert f (n / 2) s no_pairs) (half-skips n s even ∙ e) in
+      (tree.map h.0, even-parse n s even ∙ ap (λ o. and_then o (λ ps. Some (tree.map ps))) h.1)
 
   not-map : (n : ℕ) (s : List ℕ) → n % 2 ≡ 0 → (skips f n s ≡ Some [] → ⊥) → parse_map f (n, s) ≡ None
-  not-map n s even none =
-      let half : 2 * (n / 2) ≡ n = omega (arith, even) in
-      let h = all-none (insert f (n / 2) s no_pairs) (λ e. none (sym (insert-skips (n / 2) s no_pairs ∙ ap (λ m. skips f m s) half) ∙ e)) in
-      rw (even, h) refl
-
+  not-map n s even left =
+      let h = all-none (insert f (n / 2) s no_pairs) (λ e. left (sym (half-skips n s even) ∙ e)) in
+      even-parse n s even ∙ ap (λ o. and_then o (λ ps. Some (tree.map ps))) h
 
   -- The loop over values.
   pub skips-step : (n i : ℕ) (s rest : List ℕ) (t : Tree) → i < n → f s ≡ Some (t, rest) → skips f (n - (i + 1)) rest ≡ skips f (n - i) s

@@ -1,4 +1,4 @@
-use Rattle.std.proofs.Common.{rules, ◌≡◌, ◌∷◌, ◌-◌, ◌%◌, Some, None, IfOk, IfErr, OnErr, sym, ap, ◌∙◌, subst, length, arith}
+use Rattle.std.proofs.Common.{rules, ◌≡◌, ◌∷◌, ◌+◌, ◌-◌, ◌%◌, ◌<◌, Some, None, IfOk, IfErr, OnErr, sym, ap, ◌∙◌, subst, length, arith}
 use Rattle.amqp_data.specs.FormatCode.{code_of}
 use Rattle.amqp_frame.specs.Code.{category}
 use Rattle.amqp_ser.specs.Tree as tree
@@ -123,10 +123,9 @@ skip_payload-overflow_add-rest t c =
 pub skip_payload-check_content-requires : goal.skip_payload-check_content-requires
 skip_payload-check_content-requires t c =
     let short = content-shorter (category (code_of c.args.code)) c.args.bytes.now c.in-Ok.content.now c.in-Ok.rest.now c.in-Ok.ensures.ok in
-    record {
-      fits = omega (arith, short, c.requires.fits);
-      below = omega (arith, c.requires.above, c.ranges.depth.fits);
-    }
+    let fits : length c.in-Ok.content.now + (length c.in-Ok.rest.now + c.args.after) < 18446744073709551616 = omega (arith, short, c.requires.fits) in
+    let below : c.args.depth - 1 + 1 < 65536 = omega (arith, c.requires.above, c.ranges.depth.fits) in
+    search rules
 
 pub skip_payload-returns-clause-shorter : goal.skip_payload-returns-clause-shorter
 skip_payload-returns-clause-shorter t c =
@@ -136,26 +135,29 @@ skip_payload-returns-clause-shorter t c =
 pub check_content-check_values-requires : goal.check_content-check_values-requires
 check_content-check_values-requires t c =
     let short = counted-shorter c.in-List.count c.args.content.now c.in-Ok.count c.in-Ok.body.now c.in-Ok.ensures.ok in
-    record { fits = omega (arith, short, c.requires.fits) }
+    let fits : length c.in-Ok.body.now + c.args.after < 18446744073709551616 = omega (arith, short, c.requires.fits) in
+    search rules
 
 pub check_content-check_values-requires-in-Ok-read_count : goal.check_content-check_values-requires-in-Ok-read_count
 check_content-check_values-requires-in-Ok-read_count t c =
     let short = counted-shorter c.in-Map.count c.args.content.now c.in-Ok-read_count.count c.in-Ok-read_count.body.now c.in-Ok-read_count.ensures.ok in
-    record { fits = omega (arith, short, c.requires.fits) }
+    let fits : length c.in-Ok-read_count.body.now + c.args.after < 18446744073709551616 = omega (arith, short, c.requires.fits) in
+    search rules
 
 pub check_content-check_array-requires : goal.check_content-check_array-requires
 check_content-check_array-requires t c =
     let short = counted-shorter c.in-Array.count c.args.content.now c.in-Ok-read_count-2.count c.in-Ok-read_count-2.body.now c.in-Ok-read_count-2.ensures.ok in
-    record { fits = omega (arith, short, c.requires.fits) }
+    let fits : length c.in-Ok-read_count-2.body.now + c.args.after < 18446744073709551616 = omega (arith, short, c.requires.fits) in
+    search rules
 
-pub check_content-overflow_add-result : goal.check_content-overflow_add-result
-check_content-overflow_add-result t c =
-    let odd = odd-shorter c.in-Map.count c.args.content.now c.in-Ok-read_count.count c.in-Ok-read_count.body.now c.in-Ok-read_count.ensures.ok (search rules) in
+pub check_content-overflow_add-result-then-count-ne0 : goal.check_content-overflow_add-result-then-count-ne0
+check_content-overflow_add-result-then-count-ne0 t c =
+    let odd = odd-shorter c.in-Map.count c.args.content.now c.in-Ok-read_count.count c.in-Ok-read_count.body.now c.in-Ok-read_count.ensures.ok (λ e. c.if-count-ne0.true e) in
     omega (arith, odd, c.requires.fits)
 
-pub check_content-overflow_add-result-2 : goal.check_content-overflow_add-result-2
-check_content-overflow_add-result-2 t c =
-    let odd = odd-shorter c.in-Map.count c.args.content.now c.in-Ok-read_count.count c.in-Ok-read_count.body.now c.in-Ok-read_count.ensures.ok (search rules) in
+pub check_content-overflow_add-result-then-count-ne0-2 : goal.check_content-overflow_add-result-then-count-ne0-2
+check_content-overflow_add-result-then-count-ne0-2 t c =
+    let odd = odd-shorter c.in-Map.count c.args.content.now c.in-Ok-read_count.count c.in-Ok-read_count.body.now c.in-Ok-read_count.ensures.ok (λ e. c.if-count-ne0.true e) in
     omega (arith, odd, c.requires.fits)
 
 pub check_content-returns-in-Scalar-clause-ok : goal.check_content-returns-in-Scalar-clause-ok
@@ -173,16 +175,16 @@ check_content-returns-in-Ok-clause-err t c =
     let is : shape_of_code c.args.code ≡ shape.List c.in-List.count = search rules in
     on-err c.check_values.result (no_list-content c.args.depth c.args.code c.args.content.now c.in-List.count c.in-Ok.count c.in-Ok.body.now c.in-Ok.ensures.ok is) c.check_values.ensures.err
 
-pub check_content-returns-in-Ok-read_count-clause-ok : goal.check_content-returns-in-Ok-read_count-clause-ok
-check_content-returns-in-Ok-read_count-clause-ok t c =
+pub check_content-returns-else-count-ne0-clause-ok : goal.check_content-returns-else-count-ne0-clause-ok
+check_content-returns-else-count-ne0-clause-ok t c =
     let is : shape_of_code c.args.code ≡ shape.Map c.in-Map.count = search rules in
-    let even : c.in-Ok-read_count.count % 2 ≡ 0 = search rules in
+    let even : c.in-Ok-read_count.count % 2 ≡ 0 = search (arith, rules) in
     on-ok c.check_values-in-Ok-read_count.result (map-content c.args.depth c.args.code c.args.content.now c.in-Map.count c.in-Ok-read_count.count c.in-Ok-read_count.body.now c.in-Ok-read_count.ensures.ok is even) c.check_values-in-Ok-read_count.ensures.ok
 
-pub check_content-returns-in-Ok-read_count-clause-err : goal.check_content-returns-in-Ok-read_count-clause-err
-check_content-returns-in-Ok-read_count-clause-err t c =
+pub check_content-returns-else-count-ne0-clause-err : goal.check_content-returns-else-count-ne0-clause-err
+check_content-returns-else-count-ne0-clause-err t c =
     let is : shape_of_code c.args.code ≡ shape.Map c.in-Map.count = search rules in
-    let even : c.in-Ok-read_count.count % 2 ≡ 0 = search rules in
+    let even : c.in-Ok-read_count.count % 2 ≡ 0 = search (arith, rules) in
     on-err c.check_values-in-Ok-read_count.result (no_map-content c.args.depth c.args.code c.args.content.now c.in-Map.count c.in-Ok-read_count.count c.in-Ok-read_count.body.now c.in-Ok-read_count.ensures.ok is even) c.check_values-in-Ok-read_count.ensures.err
 
 pub check_array-returns-in-None-clause-ok : goal.check_array-returns-in-None-clause-ok
@@ -201,7 +203,8 @@ check_array-returns-in-Ok-clause-err t c =
 
 pub check_values-skip_value-requires : goal.check_values-skip_value-requires
 check_values-skip_value-requires t c =
-    record { fits = omega (arith, c.loop.invariant.shorter, c.requires.fits) }
+    let fits : length c.loop.rest.now + c.args.after < 18446744073709551616 = omega (arith, c.loop.invariant.shorter, c.requires.fits) in
+    search rules
 
 pub check_values-loop-preserved : goal.check_values-loop-preserved
 check_values-loop-preserved t c =
@@ -214,7 +217,8 @@ check_values-loop-preserved t c =
 
 pub check_values-returns-in_err-later-clause-err : goal.check_values-returns-in_err-later-clause-err
 check_values-returns-in_err-later-clause-err t c =
-    skips-none (parse c.args.depth) c.args.count c.loop.counter c.loop.rest.now c.args.body.now c.loop-test.true c.loop.invariant.kept c.in_err-later.ensures.err
+    let left = skips-none (parse c.args.depth) c.args.count c.loop.counter c.loop.rest.now c.args.body.now c.loop-test.true c.loop.invariant.kept c.in_err-later.ensures.err in
+    search (rules, left)
 
 pub check_values-returns-in_err-later-clause-spot : goal.check_values-returns-in_err-later-clause-spot
 check_values-returns-in_err-later-clause-spot t c =
@@ -244,7 +248,8 @@ check_values-returns-else-is_empty-clause-spot t c =
 
 pub check_items-skip_item-requires : goal.check_items-skip_item-requires
 check_items-skip_item-requires t c =
-    record { fits = omega (arith, c.loop.invariant.shorter, c.requires.fits) }
+    let fits : length c.loop.rest.now + c.args.after < 18446744073709551616 = omega (arith, c.loop.invariant.shorter, c.requires.fits) in
+    search rules
 
 pub check_items-loop-preserved : goal.check_items-loop-preserved
 check_items-loop-preserved t c =
@@ -257,7 +262,8 @@ check_items-loop-preserved t c =
 
 pub check_items-returns-in_err-later-clause-err : goal.check_items-returns-in_err-later-clause-err
 check_items-returns-in_err-later-clause-err t c =
-    skips-none (payload_in (parse_content c.args.depth) c.args.code) c.args.count c.loop.counter c.loop.rest.now c.args.payloads.now c.loop-test.true c.loop.invariant.kept c.in_err-later.ensures.err
+    let left = skips-none (payload_in (parse_content c.args.depth) c.args.code) c.args.count c.loop.counter c.loop.rest.now c.args.payloads.now c.loop-test.true c.loop.invariant.kept c.in_err-later.ensures.err in
+    search (rules, left)
 
 pub check_items-returns-in_err-later-clause-spot : goal.check_items-returns-in_err-later-clause-spot
 check_items-returns-in_err-later-clause-spot t c =
