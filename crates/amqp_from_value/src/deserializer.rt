@@ -4,12 +4,13 @@ ghost use Rattle.std.specs.Prelude.{◌≡◌, map};
 ghost use Rattle.amqp_data.specs.declared.error.Error.TheVariants.{OutOfMemory};
 ghost use Rattle.amqp_data.specs.Pairs.{entries_of};
 ghost use Rattle.amqp_value.specs.TreeOf.{tree_of};
+ghost use Rattle.amqp_value.specs.ValueKind.{kind_of};
 ghost use Rattle.amqp_de.specs.Answers.{Answers, Restores};
 
 use crate::key_of_name::find;
 use amqp_data::{Error, OrderedMap};
 use amqp_de::de::{self, Content, Deserialize, FixedContent};
-use amqp_value::{Value, is_short_key};
+use amqp_value::{Value, ValueKind, is_short_key};
 use std::alloc::Global;
 use std::collections::VecDeque;
 use std::vec::IntoIter;
@@ -50,6 +51,13 @@ impl Deserializer {
         ensures { value_tree result ≡ tree_of value }
     {
         Deserializer { alloc, value }
+    }
+
+    // Returns the type of the value.
+    pub(crate) fn kind(&self) -> ValueKind
+        ensures { result ≡ kind_of self.now.value }
+    {
+        self.value.kind()
     }
 }
 
