@@ -22,6 +22,7 @@
 //! | `prefixes BYTES` | the number of proper prefixes, and of incomplete ones |
 //! | `read TYPE BYTES` | the value as this type: its results |
 //! | `once TYPE BYTES` | like `read`, by `Deserialize::read_encoded` alone |
+//! | `field TYPE BYTES` | what could not be read, by `from_value_located` and `from_slice_located`: the error, the name, the index, the types wanted and found |
 //! | `read_within LENGTH/ELEMENTS/LEVELS BYTES` | the `Value` by `from_slice_limited` and `from_reader_limited`: its results |
 //! | `readers BYTES` | the scalar types that read the value; for all others it is invalid |
 //! | `parts READER BYTES` | the value by this reader (`parts`, `visitors`): its `Debug` text |
@@ -47,6 +48,7 @@ mod composites;
 mod compounds;
 mod cuts;
 mod limited;
+mod located;
 mod marked;
 mod notation;
 mod parts;
