@@ -47,20 +47,30 @@ fn of_parts(alloc: Global, name: &str, bytes: &[u8]) -> Result<String, Error> {
 fn place_of<T: Deserialize>(alloc: Global, bytes: &[u8]) -> Result<String, Error> {
     let by_slice = match from_slice_located::<T>(alloc, bytes) {
         Ok(_) => None,
-        Err(SliceError::Value(error)) => Some(error),
+        Err(SliceError::Value(error)) => Some(unless_memory(error)?),
         Err(SliceError::Bytes(located)) => return Err(located.error),
     };
     let by_value = match from_value_located::<T>(alloc, decode_value(alloc, bytes)?) {
         Ok(_) => None,
-        Err(error) => Some(error),
+        Err(error) => Some(unless_memory(error)?),
     };
     if by_value != by_slice {
         return Err(Error::Message("another place by from_slice_located"));
     }
     match (from_value::<T>(alloc, decode_value(alloc, bytes)?), by_value) {
         (Ok(_), None) => Ok(String::from_str(alloc, "read")?),
+        (Err(Error::OutOfMemory), _) => Err(Error::OutOfMemory),
         (Err(wanted), Some(error)) if wanted == error.error => shown(alloc, &error),
         _ => Err(Error::Message("another error by from_value")),
+    }
+}
+
+// Returns the error with its place, or fails if it is out of memory.
+fn unless_memory(error: ReadError) -> Result<ReadError, Error> {
+    if error.error == Error::OutOfMemory {
+        Err(Error::OutOfMemory)
+    } else {
+        Ok(error)
     }
 }
 

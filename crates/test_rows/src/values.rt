@@ -37,6 +37,10 @@ pub fn decode_within(alloc: Global, arguments: &str) -> Result<String, Error> {
 pub fn place(alloc: Global, bytes: &[u8]) -> Result<String, Error> {
     let (error, place) = match decode_value_located(alloc, bytes) {
         Ok(_) => (None, None),
+        Err(Located {
+            error: Error::OutOfMemory,
+            place: None,
+        }) => return Err(Error::OutOfMemory),
         Err(Located { error, place }) => (Some(error), place),
     };
     if fault_place(bytes) != place {
