@@ -11,6 +11,7 @@ use crate::deserializer::Deserializer;
 use crate::record::{Describes, Record};
 use crate::seed::DeserializeSeed;
 use amqp_data::Descriptor;
+use amqp_value::ValueKind;
 use std::alloc::Global;
 
 /// Reads the parts of a value with the given numeric descriptor.
@@ -51,7 +52,7 @@ pub fn read_composite<T: Record, D: Deserializer, S: DeserializeSeed<Value = T::
                 Err(error) => Err(error),
             }
         }
-        _ => Err(D::Error::invalid_value()),
+        _ => Err(D::Error::invalid_type(ValueKind::Described)),
     }
 }
 
@@ -89,6 +90,6 @@ pub fn read_named<T: Record, D: Deserializer, S: DeserializeSeed<Value = T::Valu
                 Err(error) => Err(error),
             }
         }
-        _ => Err(D::Error::invalid_value()),
+        _ => Err(D::Error::invalid_type(ValueKind::Described)),
     }
 }

@@ -17,6 +17,7 @@ use crate::enums::{Either, Never};
 use crate::record::Record;
 use amqp_data::Descriptor;
 use amqp_decode::prefix::GaveUp;
+use amqp_value::ValueKind;
 use std::alloc::Global;
 
 /// A type that is read after its descriptor, which is a code or a name (AMQP 1.0 part 1, section 1.4).
@@ -131,7 +132,7 @@ pub fn read_composite_type<T: Composite, D: Deserializer>(
                 Err(error) => Err(error),
             }
         }
-        _ => Err(D::Error::invalid_value()),
+        _ => Err(D::Error::invalid_type(ValueKind::Described)),
     }
 }
 
@@ -287,7 +288,7 @@ where
             Ok(values) => Ok(values),
             Err(error) => Err(error),
         },
-        _ => Err(D::Error::invalid_value()),
+        _ => Err(D::Error::invalid_type(ValueKind::Described)),
     }
 }
 
@@ -307,6 +308,6 @@ pub fn read_no_fields<D: Deserializer>(deserializer: D) -> Result<(), D::Error>
 {
     match deserializer.into_list() {
         Some(_) => Ok(()),
-        None => Err(D::Error::invalid_value()),
+        None => Err(D::Error::invalid_type(ValueKind::List)),
     }
 }

@@ -26,10 +26,11 @@ pub struct Defaulted<V, R> {
     pub rest: R,
 }
 
-// Reads a value, or the default from null.
+// Reads the value of the field with this name, or the default from null.
 #[tactic(auto, unfolding(crate::specs::Defaults::ReadsOr))]
 fn read_or<V: Deserialize + Copy, D: Deserializer>(
     alloc: Global,
+    name: &'static str,
     default: V,
     deserializer: D,
 ) -> Result<V, D::Error>
@@ -43,7 +44,7 @@ fn read_or<V: Deserialize + Copy, D: Deserializer>(
     }
     match V::deserialize(alloc, deserializer) {
         Ok(value) => Ok(value),
-        Err(error) => Err(error),
+        Err(error) => Err(error.in_field(name)),
     }
 }
 
@@ -89,7 +90,7 @@ impl<V: Deserialize + Copy, R: FieldSeeds> FieldSeeds for Defaulted<V, R> {
         elements: &mut D::Elements,
     ) -> Result<FieldValues<V, R::Values>, D::Error> {
         let value = match D::next_element(&mut *elements) {
-            Some(element) => read_or::<V, D>(alloc, self.default, element)?,
+            Some(element) => read_or::<V, D>(alloc, self.name, self.default, element)?,
             None => self.default,
         };
         let rest = self.rest.read_elements::<D>(alloc, elements)?;
@@ -103,7 +104,7 @@ impl<V: Deserialize + Copy, R: FieldSeeds> FieldSeeds for Defaulted<V, R> {
     ) -> Result<FieldValues<V, R::Values>, D::Error> {
         match D::take_named(&mut *entries, self.name) {
             Some(entry) => {
-                let value = read_or::<V, D>(alloc, self.default, entry)?;
+                let value = read_or::<V, D>(alloc, self.name, self.default, entry)?;
                 let rest = self.rest.read_entries::<D>(alloc, entries)?;
                 Ok(FieldValues { value, rest })
             }

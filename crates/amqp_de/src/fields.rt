@@ -5,7 +5,7 @@ ghost use Rattle.amqp_decode.specs.Parsed.{parse};
 ghost use Rattle.amqp_de.specs.Encoded.{FieldsFill};
 ghost use Rattle.amqp_de.specs.EncodedMaps.{NamedFieldsFill};
 ghost use Rattle.amqp_ser.specs.Tree.{Tree, scalar, string};
-ghost use Rattle.amqp_de.specs.Answers.{Answers};
+ghost use Rattle.amqp_de.specs.Answers.{Answers, Restores};
 ghost use Rattle.amqp_de.specs.Fields.{FieldSource, by_position, by_name, ReadsRequired, ReadsOptional, NoMoreFields};
 ghost use Rattle.amqp_de.specs.Present.{EndsEarly, required, optional, present_fields, distinct_names};
 ghost use Rattle.amqp_de.specs.Reads.{Always, RestorableOption, SameOption};
@@ -124,6 +124,23 @@ pub trait FieldSeeds: Sized {
             same (parse (suc depth)) count body.now v) }
     {
         Err(GaveUp)
+    }
+}
+
+// Reads the value of the field with this name, which its error then has.
+#[inline(always)]
+pub(crate) fn read_field<V: Deserialize, D: Deserializer>(
+    alloc: Global,
+    name: &'static str,
+    deserializer: D,
+) -> Result<V, D::Error>
+    ensures read { Answers D.Error.is_out_of_memory (V.reads (D.value deserializer)) result }
+    ensures law { Restores V.image V.restorable V.same
+        D.Error.is_out_of_memory (D.value deserializer) result }
+{
+    match V::deserialize(alloc, deserializer) {
+        Ok(value) => Ok(value),
+        Err(error) => Err(error.in_field(name)),
     }
 }
 
@@ -249,11 +266,11 @@ impl<V: Deserialize, R: FieldSeeds> FieldSeeds for Required<V, R> {
     ) -> Result<FieldValues<V, R::Values>, D::Error> {
         match D::next_element(&mut *elements) {
             Some(element) => {
-                let value = V::deserialize(alloc, element)?;
+                let value = read_field::<V, D>(alloc, self.name, element)?;
                 let rest = self.rest.read_elements::<D>(alloc, elements)?;
                 Ok(FieldValues { value, rest })
             }
-            None => Err(D::Error::invalid_value()),
+            None => Err(D::Error::missing_field(self.name)),
         }
     }
 
@@ -264,11 +281,11 @@ impl<V: Deserialize, R: FieldSeeds> FieldSeeds for Required<V, R> {
     ) -> Result<FieldValues<V, R::Values>, D::Error> {
         match D::take_named(&mut *entries, self.name) {
             Some(entry) => {
-                let value = V::deserialize(alloc, entry)?;
+                let value = read_field::<V, D>(alloc, self.name, entry)?;
                 let rest = self.rest.read_entries::<D>(alloc, entries)?;
                 Ok(FieldValues { value, rest })
             }
-            None => Err(D::Error::invalid_value()),
+            None => Err(D::Error::missing_field(self.name)),
         }
     }
 
@@ -346,7 +363,7 @@ impl<V: Deserialize, R: FieldSeeds> FieldSeeds for Optional<V, R> {
         elements: &mut D::Elements,
     ) -> Result<FieldValues<Option<V>, R::Values>, D::Error> {
         let value = match D::next_element(&mut *elements) {
-            Some(element) => Option::<V>::deserialize(alloc, element)?,
+            Some(element) => read_field::<Option<V>, D>(alloc, self.name, element)?,
             None => None,
         };
         let rest = self.rest.read_elements::<D>(alloc, elements)?;
@@ -360,7 +377,7 @@ impl<V: Deserialize, R: FieldSeeds> FieldSeeds for Optional<V, R> {
     ) -> Result<FieldValues<Option<V>, R::Values>, D::Error> {
         match D::take_named(&mut *entries, self.name) {
             Some(entry) => {
-                let value = Option::<V>::deserialize(alloc, entry)?;
+                let value = read_field::<Option<V>, D>(alloc, self.name, entry)?;
                 let rest = self.rest.read_entries::<D>(alloc, entries)?;
                 Ok(FieldValues { value, rest })
             }

@@ -13,6 +13,7 @@ use crate::deserializer::Deserializer;
 use crate::fields::FieldSeeds;
 use crate::record::{Describes, Record};
 use crate::record_map::read_map;
+use amqp_value::ValueKind;
 use std::alloc::Global;
 
 /// A type whose fields have names that differ.
@@ -81,7 +82,7 @@ pub fn read_composite_map<
             }
             read_fields_map::<T, D, F>(alloc, value, fields)
         }
-        _ => Err(D::Error::invalid_value()),
+        _ => Err(D::Error::invalid_type(ValueKind::Described)),
     }
 }
 
@@ -114,6 +115,6 @@ pub fn read_named_map<T: NamedRecord, D: Deserializer, F: FieldSeeds<Values = T:
             }
             read_fields_map::<T, D, F>(alloc, value, fields)
         }
-        _ => Err(D::Error::invalid_value()),
+        _ => Err(D::Error::invalid_type(ValueKind::Described)),
     }
 }

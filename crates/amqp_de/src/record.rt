@@ -12,6 +12,7 @@ use crate::deserialize_error::DeserializeError;
 use crate::deserializer::Deserializer;
 use crate::seed::DeserializeSeed;
 use amqp_data::{Descriptor, SymbolRef};
+use amqp_value::ValueKind;
 use std::alloc::Global;
 
 /// A type whose values are read by their parts, such as the fields of a struct.
@@ -142,6 +143,6 @@ pub fn read_described<
                 Err(error) => Err(error),
             }
         }
-        _ => Err(D::Error::invalid_value()),
+        _ => Err(D::Error::invalid_type(ValueKind::Described)),
     }
 }

@@ -12,6 +12,7 @@ use crate::deserializer::Deserializer;
 use crate::fields::FieldSeeds;
 use crate::record::{Describes, Record};
 use crate::seed::{DeserializeSeed, NamedSeed};
+use amqp_value::ValueKind;
 use std::alloc::Global;
 
 /// Reads the parts of a value from a map of its fields, or from a list or an array of them.
@@ -77,6 +78,6 @@ pub fn read_described_map<
             }
             read_map::<T, D, F>(alloc, value, fields)
         }
-        _ => Err(D::Error::invalid_value()),
+        _ => Err(D::Error::invalid_type(ValueKind::Described)),
     }
 }

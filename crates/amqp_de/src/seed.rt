@@ -13,6 +13,7 @@ use crate::deserialize_error::DeserializeError;
 use crate::deserializer::Deserializer;
 use crate::fields::FieldSeeds;
 use amqp_decode::prefix::{GaveUp, below, split_list};
+use amqp_value::ValueKind;
 use std::alloc::Global;
 use std::marker::PhantomData;
 
@@ -166,7 +167,7 @@ where
                     Err(error) => Err(error),
                 }
             }
-            None => Err(D::Error::invalid_value()),
+            None => Err(D::Error::invalid_type(ValueKind::List)),
         }
     }
 

@@ -7,7 +7,9 @@ pub mod FaultLemmas
 pub mod Finds
 pub mod ScalarFramed
 pub mod Means
+pub mod SkipScalars
 pub mod Whole
+pub mod SkipLemmas
 pub mod Levels
 pub mod Classes
 pub mod ClassLemmas
@@ -22,5 +24,6 @@ pub mod OwnImage
 pub mod Framed
 pub mod ScalarBytes
 pub mod Encodes
+pub mod PlaceLemmas
 pub mod Worked
 pub mod FaultRows

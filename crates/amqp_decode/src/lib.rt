@@ -10,6 +10,7 @@ mod decode;
 mod fixed;
 pub mod laws;
 mod limit;
+mod located;
 mod payload;
 mod payload_shape;
 pub mod prefix;
@@ -18,5 +19,8 @@ mod read;
 mod reserve;
 mod run;
 mod scalar;
+mod scalar_check;
+mod skip;
 
 pub use decode::{decode_value, decode_value_limited, decode_value_to_depth};
+pub use located::{Located, Place, decode_value_located, fault_place};

@@ -14,10 +14,14 @@ abbrev pub IsMemory : Error → Type 0
 IsMemory e = e ≡ error.OutOfMemory
 
 -- bytes of a tree that is not read are not read
+pub unread_by : {T E : Type 0} (Memory : E → Type 0) (R : Tree → T → Type 0) (bs : List ℕ) (e : E) (u : Tree) → Spells 256 bs u
+    → Refuses Memory (R u) e → Refuses Memory (ReadsSpelled R bs) e
+unread_by Memory R bs e u sp (inl m) = inl m
+unread_by Memory R bs e u sp (inr n) = inr (λ x r. n x (subst (λ v. R v x) (one-tree 256 256 bs r.0 u r.1 sp) r.2))
+
 pub unread : {T : Type 0} (R : Tree → T → Type 0) (bs : List ℕ) (e : Error) (u : Tree) → Spells 256 bs u
     → Refuses IsMemory (R u) e → Refuses IsMemory (ReadsSpelled R bs) e
-unread R bs e u sp (inl m) = inl m
-unread R bs e u sp (inr n) = inr (λ x r. n x (subst (λ v. R v x) (one-tree 256 256 bs r.0 u r.1 sp) r.2))
+unread = unread_by IsMemory
 
 -- and not from a reader whose next encoded value has these bytes
 pub refused_next : {T : Type 0} (R : Tree → T → Type 0) (old new : Option (List ℕ)) (before after : ℕ) (bs cs : List ℕ) (e : Error)

@@ -9,12 +9,14 @@
 pub mod laws;
 mod lazy;
 mod limited;
+mod located;
 mod read;
 mod reader;
 mod round_trip;
 
 pub use lazy::ReadLazy;
 pub use limited::{Limits, from_slice_limited};
+pub use located::{SliceError, from_slice_located};
 pub use read::from_slice;
 pub use reader::{from_reader, from_reader_limited};
 pub use round_trip::round_trip_bytes;

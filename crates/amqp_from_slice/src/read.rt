@@ -53,7 +53,7 @@ pub fn from_slice<T: Deserialize>(alloc: Global, bytes: &[u8]) -> Result<T, Erro
 
 // Reads a `T` without an untyped value; returns `None` if that fails.
 #[inline(always)]
-fn read_at_once<T: Deserialize>(alloc: Global, bytes: &[u8]) -> Option<T>
+pub(crate) fn read_at_once<T: Deserialize>(alloc: Global, bytes: &[u8]) -> Option<T>
     ensures { IfSome result (λ x. ReadsSpelled
         (Reading T.reads T.image T.restorable T.same) bytes.now x) }
 {

@@ -4,6 +4,7 @@ ghost use Rattle.std.specs.Prelude.{◌≡◌, IfErr, map};
 ghost use Rattle.amqp_data.specs.declared.error.Error.TheVariants.{OutOfMemory};
 ghost use Rattle.amqp_data.specs.Pairs.{entries_of};
 ghost use Rattle.amqp_value.specs.TreeOf.{tree_of};
+ghost use Rattle.amqp_value.specs.ValueKind.{kind_of};
 ghost use Rattle.amqp_de.specs.Answers.{Answers, Restores};
 ghost use Rattle.amqp_de.specs.Errors.{IsOfReading};
 
@@ -11,7 +12,7 @@ use crate::key_of_name::find;
 use crate::refusal::Refusal;
 use amqp_data::{Error, OrderedMap};
 use amqp_de::de::{self, Content, Deserialize, DeserializeError, FixedContent};
-use amqp_value::{Value, is_short_key};
+use amqp_value::{Value, ValueKind, is_short_key};
 use std::alloc::Global;
 use std::collections::VecDeque;
 use std::marker::PhantomData;
@@ -70,6 +71,13 @@ impl<E> Deserializer<E> {
             value,
             error: PhantomData,
         }
+    }
+
+    // Returns the type of the value.
+    pub(crate) fn kind(&self) -> ValueKind
+        ensures { result ≡ kind_of self.now.value }
+    {
+        self.value.kind()
     }
 }
 

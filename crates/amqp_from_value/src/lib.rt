@@ -7,7 +7,11 @@
 mod access;
 mod deserializer;
 mod key_of_name;
+mod located;
+mod read_error;
 mod refusal;
 
 pub use access::{MapAccess, SeqAccess, VariantAccess};
 pub use deserializer::{Deserializer, Elements, Entries, from_value};
+pub use located::from_value_located;
+pub use read_error::ReadError;

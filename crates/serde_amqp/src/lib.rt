@@ -40,9 +40,10 @@ mod writers;
 pub use amqp_data::Error;
 pub use amqp_encode::{Encoder, append_to};
 pub use amqp_from_slice::{
-    Limits, from_reader, from_reader_limited, from_slice, from_slice_limited, round_trip_bytes,
+    Limits, SliceError, from_reader, from_reader_limited, from_slice, from_slice_limited,
+    from_slice_located, round_trip_bytes,
 };
-pub use amqp_from_value::from_value;
+pub use amqp_from_value::{ReadError, from_value, from_value_located};
 pub use amqp_size::serialized_size;
 pub use amqp_strict::{has_empty_array, to_vec_strict};
 pub use amqp_to_value::to_value;

@@ -9,6 +9,7 @@
 //! | `decode_within LIMIT BYTES` | like `decode`, with `decode_value_limited` |
 //! | `whole BYTES` | the length and the bytes by which the value encodes itself: `whole_len`, `whole_bytes` |
 //! | `long BYTES` | like `count`, with the size, and whether bytes and image are those given |
+//! | `place BYTES` | the offset and the depth of the first fault, with the error, or `none`: `decode_value_located` and `fault_place` |
 //! | `text BYTES TEXT` | whether the text of the value has these bytes |
 //! | `code BYTES` | the format code of the value |
 //! | `count BYTES` | the number of elements or pairs of the compound |
@@ -21,6 +22,7 @@
 //! | `prefixes BYTES` | the number of proper prefixes, and of incomplete ones |
 //! | `read TYPE BYTES` | the value as this type: its results |
 //! | `once TYPE BYTES` | like `read`, by `Deserialize::read_encoded` alone |
+//! | `field TYPE BYTES` | what could not be read, by `from_value_located` and `from_slice_located`: the error, the name, the index, the types wanted and found |
 //! | `read_within LENGTH/ELEMENTS/LEVELS BYTES` | the `Value` by `from_slice_limited` and `from_reader_limited`: its results |
 //! | `readers BYTES` | the scalar types that read the value; for all others it is invalid |
 //! | `parts READER BYTES` | the value by this reader (`parts`, `visitors`): its `Debug` text |
@@ -46,6 +48,7 @@ mod composites;
 mod compounds;
 mod cuts;
 mod limited;
+mod located;
 mod marked;
 mod notation;
 mod parts;

@@ -1,7 +1,7 @@
 //! The call of a row.
 
 use crate::{
-    cuts, limited, marked, notation, parts, results, samples, trips, types, values, visits,
+    cuts, limited, located, marked, notation, parts, results, samples, trips, types, values, visits,
 };
 use amqp_data::Error;
 use std::alloc::Global;
@@ -19,6 +19,7 @@ pub fn answer(alloc: Global, line: &str) -> Result<String, Error> {
         "text" => values::text(alloc, arguments),
         "compare" => values::compare(alloc, arguments),
         "read" => types::read(alloc, arguments, false),
+        "field" => located::field(alloc, arguments),
         "once" => types::read(alloc, arguments, true),
         "parts" => parts::parts(alloc, arguments),
         "visit" => visits::visit(alloc, arguments),
@@ -37,6 +38,7 @@ fn of_bytes(alloc: Global, call: &str, bytes: &[u8]) -> Result<String, Error> {
         "long" => values::long(alloc, bytes),
         "calls" => visits::calls(alloc, bytes),
         "code" => values::code(alloc, bytes),
+        "place" => values::place(alloc, bytes),
         "count" => values::count(alloc, bytes),
         "count_lazy" => values::count_lazy(alloc, bytes),
         "depth" => values::depth(alloc, bytes),

@@ -3,7 +3,9 @@
 use crate::notation::{bytes_of, number_of, word_of};
 use crate::row::refusal;
 use amqp_data::Error;
-use amqp_decode::{decode_value, decode_value_limited};
+use amqp_decode::{
+    Located, decode_value, decode_value_limited, decode_value_located, fault_place,
+};
 use amqp_frame::{LazyValue, SliceReader};
 use amqp_ser::Whole as _;
 use amqp_size::serialized_size;
@@ -28,6 +30,29 @@ pub fn decode_within(alloc: Global, arguments: &str) -> Result<String, Error> {
         alloc,
         &decode_value_limited(alloc, &bytes, number_of(limit)?)?,
     )
+}
+
+/// Returns the offset and the depth of the first fault with the error, or `none`. Both calls must
+/// agree.
+pub fn place(alloc: Global, bytes: &[u8]) -> Result<String, Error> {
+    let (error, place) = match decode_value_located(alloc, bytes) {
+        Ok(_) => (None, None),
+        Err(Located {
+            error: Error::OutOfMemory,
+            place: None,
+        }) => return Err(Error::OutOfMemory),
+        Err(Located { error, place }) => (Some(error), place),
+    };
+    if fault_place(bytes) != place {
+        return Ok(String::from_str(alloc, "another place")?);
+    }
+    match (error, place) {
+        (Some(error), Some(place)) => {
+            let (offset, depth) = (place.offset, place.depth);
+            Ok(format!(in alloc; "{offset} {depth} <{error}>")?)
+        }
+        _ => Ok(String::from_str(alloc, "none")?),
+    }
 }
 
 /// Returns the length and the bytes that the value returns without a serializer, or `none` for each

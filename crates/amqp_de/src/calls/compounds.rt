@@ -20,7 +20,7 @@ use crate::unwritable::unwritable;
 use crate::visitor::Visitor;
 use amqp_data::ByteBuf;
 use amqp_ser::Marker;
-use amqp_value::Value;
+use amqp_value::{Value, ValueKind};
 use amqp_wire::to_vec;
 
 /// Deserializes values that contain others: sequences, tuples, maps, structs, enums, described
@@ -45,7 +45,7 @@ pub trait DeserializeCompounds: Deserializer {
     {
         match self.open() {
             Content::List(elements) => visitor.visit_seq(ElementsOf::<Self>::new(elements)),
-            _ => Err(Self::Error::invalid_value()),
+            _ => Err(Self::Error::invalid_type(ValueKind::List)),
         }
     }
 
@@ -81,7 +81,7 @@ pub trait DeserializeCompounds: Deserializer {
     {
         match self.open() {
             Content::Map(entries) => visitor.visit_map(EntriesOf::<Self>::new(entries)),
-            _ => Err(Self::Error::invalid_value()),
+            _ => Err(Self::Error::invalid_type(ValueKind::Map)),
         }
     }
 
@@ -136,7 +136,7 @@ pub trait DeserializeCompounds: Deserializer {
     {
         match self.open() {
             Content::Described(descriptor, value) => visitor.visit_described(descriptor, value),
-            _ => Err(Self::Error::invalid_value()),
+            _ => Err(Self::Error::invalid_type(ValueKind::Described)),
         }
     }
 
@@ -321,7 +321,7 @@ pub trait DeserializeCompounds: Deserializer {
     {
         match self.open() {
             Content::Array(elements) => visitor.visit_seq(ElementsOf::<Self>::new(elements)),
-            _ => Err(Self::Error::invalid_value()),
+            _ => Err(Self::Error::invalid_type(ValueKind::Array)),
         }
     }
 
@@ -377,27 +377,27 @@ pub trait DeserializeCompounds: Deserializer {
             Marker::Lazy => self.deserialize_written(visitor),
             Marker::Symbol => match self.open() {
                 Content::Symbol(name) => visitor.visit_string(name.into_inner()),
-                _ => Err(Self::Error::invalid_value()),
+                _ => Err(Self::Error::invalid_type(ValueKind::Symbol)),
             },
             Marker::Timestamp => match self.open() {
                 Content::Timestamp(moment) => visitor.visit_i64(moment.milliseconds()),
-                _ => Err(Self::Error::invalid_value()),
+                _ => Err(Self::Error::invalid_type(ValueKind::Timestamp)),
             },
             Marker::Decimal32 => match self.open() {
                 Content::Decimal32(value) => visitor.visit_bytes(value.as_inner()),
-                _ => Err(Self::Error::invalid_value()),
+                _ => Err(Self::Error::invalid_type(ValueKind::Decimal32)),
             },
             Marker::Decimal64 => match self.open() {
                 Content::Decimal64(value) => visitor.visit_bytes(value.as_inner()),
-                _ => Err(Self::Error::invalid_value()),
+                _ => Err(Self::Error::invalid_type(ValueKind::Decimal64)),
             },
             Marker::Decimal128 => match self.open() {
                 Content::Decimal128(value) => visitor.visit_bytes(value.as_inner()),
-                _ => Err(Self::Error::invalid_value()),
+                _ => Err(Self::Error::invalid_type(ValueKind::Decimal128)),
             },
             Marker::Uuid => match self.open() {
                 Content::Uuid(value) => visitor.visit_bytes(value.as_inner()),
-                _ => Err(Self::Error::invalid_value()),
+                _ => Err(Self::Error::invalid_type(ValueKind::Uuid)),
             },
         }
     }

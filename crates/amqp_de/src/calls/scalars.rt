@@ -11,7 +11,7 @@ use crate::deserialize_error::DeserializeError;
 use crate::deserializer::Deserializer;
 use crate::visitor::Visitor;
 use amqp_data::ByteBuf;
-use amqp_value::Value;
+use amqp_value::{Value, ValueKind};
 
 /// Deserializes scalars, one method for each of Rust's types.
 ///
@@ -39,7 +39,7 @@ pub trait DeserializeScalars: Deserializer {
     {
         match self.open() {
             Content::Bool(value) => visitor.visit_bool(value),
-            _ => Err(Self::Error::invalid_value()),
+            _ => Err(Self::Error::invalid_type(ValueKind::Bool)),
         }
     }
 
@@ -58,7 +58,7 @@ pub trait DeserializeScalars: Deserializer {
     {
         match self.open() {
             Content::Ubyte(value) => visitor.visit_u8(value),
-            _ => Err(Self::Error::invalid_value()),
+            _ => Err(Self::Error::invalid_type(ValueKind::Ubyte)),
         }
     }
 
@@ -77,7 +77,7 @@ pub trait DeserializeScalars: Deserializer {
     {
         match self.open() {
             Content::Ushort(value) => visitor.visit_u16(value),
-            _ => Err(Self::Error::invalid_value()),
+            _ => Err(Self::Error::invalid_type(ValueKind::Ushort)),
         }
     }
 
@@ -96,7 +96,7 @@ pub trait DeserializeScalars: Deserializer {
     {
         match self.open() {
             Content::Uint(value) => visitor.visit_u32(value),
-            _ => Err(Self::Error::invalid_value()),
+            _ => Err(Self::Error::invalid_type(ValueKind::Uint)),
         }
     }
 
@@ -115,7 +115,7 @@ pub trait DeserializeScalars: Deserializer {
     {
         match self.open() {
             Content::Ulong(value) => visitor.visit_u64(value),
-            _ => Err(Self::Error::invalid_value()),
+            _ => Err(Self::Error::invalid_type(ValueKind::Ulong)),
         }
     }
 
@@ -134,7 +134,7 @@ pub trait DeserializeScalars: Deserializer {
     {
         match self.open() {
             Content::Byte(value) => visitor.visit_i8(value),
-            _ => Err(Self::Error::invalid_value()),
+            _ => Err(Self::Error::invalid_type(ValueKind::Byte)),
         }
     }
 
@@ -153,7 +153,7 @@ pub trait DeserializeScalars: Deserializer {
     {
         match self.open() {
             Content::Short(value) => visitor.visit_i16(value),
-            _ => Err(Self::Error::invalid_value()),
+            _ => Err(Self::Error::invalid_type(ValueKind::Short)),
         }
     }
 
@@ -172,7 +172,7 @@ pub trait DeserializeScalars: Deserializer {
     {
         match self.open() {
             Content::Int(value) => visitor.visit_i32(value),
-            _ => Err(Self::Error::invalid_value()),
+            _ => Err(Self::Error::invalid_type(ValueKind::Int)),
         }
     }
 
@@ -191,7 +191,7 @@ pub trait DeserializeScalars: Deserializer {
     {
         match self.open() {
             Content::Long(value) => visitor.visit_i64(value),
-            _ => Err(Self::Error::invalid_value()),
+            _ => Err(Self::Error::invalid_type(ValueKind::Long)),
         }
     }
 
@@ -210,7 +210,7 @@ pub trait DeserializeScalars: Deserializer {
     {
         match self.open() {
             Content::Float(value) => visitor.visit_f32(value),
-            _ => Err(Self::Error::invalid_value()),
+            _ => Err(Self::Error::invalid_type(ValueKind::Float)),
         }
     }
 
@@ -229,7 +229,7 @@ pub trait DeserializeScalars: Deserializer {
     {
         match self.open() {
             Content::Double(value) => visitor.visit_f64(value),
-            _ => Err(Self::Error::invalid_value()),
+            _ => Err(Self::Error::invalid_type(ValueKind::Double)),
         }
     }
 
@@ -248,7 +248,7 @@ pub trait DeserializeScalars: Deserializer {
     {
         match self.open() {
             Content::Char(value) => visitor.visit_char(value),
-            _ => Err(Self::Error::invalid_value()),
+            _ => Err(Self::Error::invalid_type(ValueKind::Char)),
         }
     }
 
@@ -267,7 +267,7 @@ pub trait DeserializeScalars: Deserializer {
     {
         match self.open() {
             Content::String(value) => visitor.visit_string(value),
-            _ => Err(Self::Error::invalid_value()),
+            _ => Err(Self::Error::invalid_type(ValueKind::String)),
         }
     }
 
@@ -302,7 +302,7 @@ pub trait DeserializeScalars: Deserializer {
     {
         match self.open() {
             Content::Binary(value) => visitor.visit_byte_buf(value),
-            _ => Err(Self::Error::invalid_value()),
+            _ => Err(Self::Error::invalid_type(ValueKind::Binary)),
         }
     }
 

@@ -11,6 +11,7 @@ use crate::deserialize_error::DeserializeError;
 use crate::deserializer::Deserializer;
 use crate::impls::lists::reserve;
 use amqp_decode::prefix::{GaveUp, below, split_list};
+use amqp_value::ValueKind;
 use std::alloc::Global;
 
 /// Reads `count` elements, in order. Further elements are ignored.
@@ -66,7 +67,7 @@ impl<T: Deserialize, const N: usize> Deserialize for [T; N] {
                 },
                 Err(error) => Err(error),
             },
-            None => Err(D::Error::invalid_value()),
+            None => Err(D::Error::invalid_type(ValueKind::List)),
         }
     }
 

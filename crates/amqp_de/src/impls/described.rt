@@ -14,6 +14,7 @@ use crate::deserialize_error::DeserializeError;
 use crate::deserializer::Deserializer;
 use amqp_data::{Described, Descriptor};
 use amqp_decode::prefix::{GaveUp, below, read_symbol, read_ulong, split_byte, split_descriptor};
+use amqp_value::ValueKind;
 use std::alloc::Global;
 
 impl Deserialize for Descriptor {
@@ -83,7 +84,7 @@ impl<T: Deserialize> Deserialize for Described<T> {
                 Ok(value) => Ok(Described { descriptor, value }),
                 Err(error) => Err(error),
             },
-            _ => Err(D::Error::invalid_value()),
+            _ => Err(D::Error::invalid_type(ValueKind::Described)),
         }
     }
 

@@ -17,6 +17,7 @@ use amqp_decode::prefix::{
     GaveUp, read_decimal32, read_decimal64, read_decimal128, read_double, read_float,
     read_timestamp, read_uuid,
 };
+use amqp_value::ValueKind;
 use std::alloc::Global;
 
 impl Deserialize for F32Bits {
@@ -32,7 +33,7 @@ impl Deserialize for F32Bits {
     fn deserialize<D: Deserializer>(_alloc: Global, deserializer: D) -> Result<F32Bits, D::Error> {
         match deserializer.into_fixed() {
             FixedContent::Float(value) => Ok(value),
-            _ => Err(D::Error::invalid_value()),
+            _ => Err(D::Error::invalid_type(ValueKind::Float)),
         }
     }
 
@@ -77,7 +78,7 @@ impl Deserialize for F64Bits {
     fn deserialize<D: Deserializer>(_alloc: Global, deserializer: D) -> Result<F64Bits, D::Error> {
         match deserializer.into_fixed() {
             FixedContent::Double(value) => Ok(value),
-            _ => Err(D::Error::invalid_value()),
+            _ => Err(D::Error::invalid_type(ValueKind::Double)),
         }
     }
 
@@ -121,7 +122,7 @@ impl Deserialize for Dec32 {
     fn deserialize<D: Deserializer>(_alloc: Global, deserializer: D) -> Result<Dec32, D::Error> {
         match deserializer.open() {
             Content::Decimal32(value) => Ok(value),
-            _ => Err(D::Error::invalid_value()),
+            _ => Err(D::Error::invalid_type(ValueKind::Decimal32)),
         }
     }
 
@@ -150,7 +151,7 @@ impl Deserialize for Dec64 {
     fn deserialize<D: Deserializer>(_alloc: Global, deserializer: D) -> Result<Dec64, D::Error> {
         match deserializer.open() {
             Content::Decimal64(value) => Ok(value),
-            _ => Err(D::Error::invalid_value()),
+            _ => Err(D::Error::invalid_type(ValueKind::Decimal64)),
         }
     }
 
@@ -179,7 +180,7 @@ impl Deserialize for Dec128 {
     fn deserialize<D: Deserializer>(_alloc: Global, deserializer: D) -> Result<Dec128, D::Error> {
         match deserializer.open() {
             Content::Decimal128(value) => Ok(value),
-            _ => Err(D::Error::invalid_value()),
+            _ => Err(D::Error::invalid_type(ValueKind::Decimal128)),
         }
     }
 
@@ -212,7 +213,7 @@ impl Deserialize for Timestamp {
     ) -> Result<Timestamp, D::Error> {
         match deserializer.into_fixed() {
             FixedContent::Timestamp(value) => Ok(value),
-            _ => Err(D::Error::invalid_value()),
+            _ => Err(D::Error::invalid_type(ValueKind::Timestamp)),
         }
     }
 
@@ -260,7 +261,7 @@ impl Deserialize for Uuid {
     fn deserialize<D: Deserializer>(_alloc: Global, deserializer: D) -> Result<Uuid, D::Error> {
         match deserializer.open() {
             Content::Uuid(value) => Ok(value),
-            _ => Err(D::Error::invalid_value()),
+            _ => Err(D::Error::invalid_type(ValueKind::Uuid)),
         }
     }
 

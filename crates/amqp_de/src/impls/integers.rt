@@ -14,6 +14,7 @@ use amqp_decode::prefix::{
     GaveUp, read_byte, read_int, read_long, read_short, read_ubyte, read_uint, read_ulong,
     read_ushort,
 };
+use amqp_value::ValueKind;
 use std::alloc::Global;
 
 impl Deserialize for u8 {
@@ -29,7 +30,7 @@ impl Deserialize for u8 {
     fn deserialize<D: Deserializer>(_alloc: Global, deserializer: D) -> Result<u8, D::Error> {
         match deserializer.into_fixed() {
             FixedContent::Ubyte(value) => Ok(value),
-            _ => Err(D::Error::invalid_value()),
+            _ => Err(D::Error::invalid_type(ValueKind::Ubyte)),
         }
     }
 
@@ -63,7 +64,7 @@ impl Deserialize for u16 {
     fn deserialize<D: Deserializer>(_alloc: Global, deserializer: D) -> Result<u16, D::Error> {
         match deserializer.into_fixed() {
             FixedContent::Ushort(value) => Ok(value),
-            _ => Err(D::Error::invalid_value()),
+            _ => Err(D::Error::invalid_type(ValueKind::Ushort)),
         }
     }
 
@@ -112,7 +113,7 @@ impl Deserialize for u32 {
     fn deserialize<D: Deserializer>(_alloc: Global, deserializer: D) -> Result<u32, D::Error> {
         match deserializer.into_fixed() {
             FixedContent::Uint(value) => Ok(value),
-            _ => Err(D::Error::invalid_value()),
+            _ => Err(D::Error::invalid_type(ValueKind::Uint)),
         }
     }
 
@@ -161,7 +162,7 @@ impl Deserialize for u64 {
     fn deserialize<D: Deserializer>(_alloc: Global, deserializer: D) -> Result<u64, D::Error> {
         match deserializer.into_fixed() {
             FixedContent::Ulong(value) => Ok(value),
-            _ => Err(D::Error::invalid_value()),
+            _ => Err(D::Error::invalid_type(ValueKind::Ulong)),
         }
     }
 
@@ -210,7 +211,7 @@ impl Deserialize for i8 {
     fn deserialize<D: Deserializer>(_alloc: Global, deserializer: D) -> Result<i8, D::Error> {
         match deserializer.into_fixed() {
             FixedContent::Byte(value) => Ok(value),
-            _ => Err(D::Error::invalid_value()),
+            _ => Err(D::Error::invalid_type(ValueKind::Byte)),
         }
     }
 
@@ -244,7 +245,7 @@ impl Deserialize for i16 {
     fn deserialize<D: Deserializer>(_alloc: Global, deserializer: D) -> Result<i16, D::Error> {
         match deserializer.into_fixed() {
             FixedContent::Short(value) => Ok(value),
-            _ => Err(D::Error::invalid_value()),
+            _ => Err(D::Error::invalid_type(ValueKind::Short)),
         }
     }
 
@@ -293,7 +294,7 @@ impl Deserialize for i32 {
     fn deserialize<D: Deserializer>(_alloc: Global, deserializer: D) -> Result<i32, D::Error> {
         match deserializer.into_fixed() {
             FixedContent::Int(value) => Ok(value),
-            _ => Err(D::Error::invalid_value()),
+            _ => Err(D::Error::invalid_type(ValueKind::Int)),
         }
     }
 
@@ -342,7 +343,7 @@ impl Deserialize for i64 {
     fn deserialize<D: Deserializer>(_alloc: Global, deserializer: D) -> Result<i64, D::Error> {
         match deserializer.into_fixed() {
             FixedContent::Long(value) => Ok(value),
-            _ => Err(D::Error::invalid_value()),
+            _ => Err(D::Error::invalid_type(ValueKind::Long)),
         }
     }
 

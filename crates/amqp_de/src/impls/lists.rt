@@ -14,6 +14,7 @@ use crate::deserializer::Deserializer;
 use crate::room::{MOST_RESERVED, most_reserved};
 use amqp_data::{Array, TransparentVec};
 use amqp_decode::prefix::{GaveUp, below, split_array, split_list};
+use amqp_value::ValueKind;
 use std::alloc::Global;
 use std::mem::size_of_val;
 
@@ -121,7 +122,7 @@ impl<T: Deserialize> Deserialize for Vec<T> {
                 Ok(values) => Ok(values),
                 Err(error) => Err(error),
             },
-            None => Err(D::Error::invalid_value()),
+            None => Err(D::Error::invalid_type(ValueKind::List)),
         }
     }
 
@@ -158,7 +159,7 @@ impl<T: Deserialize> Deserialize for Array<T> {
                 Ok(values) => Ok(Array::from(values)),
                 Err(error) => Err(error),
             },
-            _ => Err(D::Error::invalid_value()),
+            _ => Err(D::Error::invalid_type(ValueKind::Array)),
         }
     }
 
@@ -198,7 +199,7 @@ impl<T: Deserialize> Deserialize for TransparentVec<T> {
                 Ok(values) => Ok(TransparentVec::new(values)),
                 Err(error) => Err(error),
             },
-            _ => Err(D::Error::invalid_value()),
+            _ => Err(D::Error::invalid_type(ValueKind::List)),
         }
     }
 

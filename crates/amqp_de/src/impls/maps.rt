@@ -19,6 +19,7 @@ use crate::deserializer::Deserializer;
 use crate::impls::encoded_maps::{keys_and_trees_differ, read_entries};
 use amqp_data::{OrderedMap, OrderedMapBuilder};
 use amqp_decode::prefix::{GaveUp, below, split_map};
+use amqp_value::ValueKind;
 use std::alloc::Global;
 use std::collections::{BTreeMap, HashMap};
 use std::hash::Hash;
@@ -185,7 +186,7 @@ impl<K: Deserialize + Hash + Eq, V: Deserialize> Deserialize for OrderedMap<K, V
                     }
                 }
             }
-            _ => Err(D::Error::invalid_value()),
+            _ => Err(D::Error::invalid_type(ValueKind::Map)),
         }
     }
 
@@ -229,7 +230,7 @@ impl<K: Deserialize + Ord, V: Deserialize> Deserialize for BTreeMap<K, V> {
                     Err(error) => Err(error),
                 }
             }
-            _ => Err(D::Error::invalid_value()),
+            _ => Err(D::Error::invalid_type(ValueKind::Map)),
         }
     }
 
@@ -276,7 +277,7 @@ impl<K: Deserialize + Hash + Eq, V: Deserialize> Deserialize for HashMap<K, V> {
                     Err(error) => Err(error),
                 }
             }
-            _ => Err(D::Error::invalid_value()),
+            _ => Err(D::Error::invalid_type(ValueKind::Map)),
         }
     }
 

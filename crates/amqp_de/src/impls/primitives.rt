@@ -10,6 +10,7 @@ use crate::deserializer::Deserializer;
 use crate::fixed_content::FixedContent;
 use crate::impls::encoded_maps::ordered_keys_differ;
 use amqp_decode::prefix::{GaveUp, read_bool, read_char, read_null};
+use amqp_value::ValueKind;
 use std::alloc::Global;
 
 impl Deserialize for () {
@@ -25,7 +26,7 @@ impl Deserialize for () {
         if deserializer.is_null() {
             Ok(())
         } else {
-            Err(D::Error::invalid_value())
+            Err(D::Error::invalid_type(ValueKind::Null))
         }
     }
 
@@ -55,7 +56,7 @@ impl Deserialize for bool {
     fn deserialize<D: Deserializer>(_alloc: Global, deserializer: D) -> Result<bool, D::Error> {
         match deserializer.into_fixed() {
             FixedContent::Bool(value) => Ok(value),
-            _ => Err(D::Error::invalid_value()),
+            _ => Err(D::Error::invalid_type(ValueKind::Bool)),
         }
     }
 
@@ -89,7 +90,7 @@ impl Deserialize for char {
     fn deserialize<D: Deserializer>(_alloc: Global, deserializer: D) -> Result<char, D::Error> {
         match deserializer.into_fixed() {
             FixedContent::Char(value) => Ok(value),
-            _ => Err(D::Error::invalid_value()),
+            _ => Err(D::Error::invalid_type(ValueKind::Char)),
         }
     }
 

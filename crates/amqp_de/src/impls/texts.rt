@@ -13,6 +13,7 @@ use crate::deserializer::Deserializer;
 use crate::impls::encoded_maps::ordered_keys_differ;
 use amqp_data::{ByteBuf, Symbol};
 use amqp_decode::prefix::{GaveUp, read_binary, read_string, read_symbol};
+use amqp_value::ValueKind;
 use std::alloc::Global;
 
 impl Deserialize for ByteBuf {
@@ -27,7 +28,7 @@ impl Deserialize for ByteBuf {
     fn deserialize<D: Deserializer>(_alloc: Global, deserializer: D) -> Result<ByteBuf, D::Error> {
         match deserializer.open() {
             Content::Binary(value) => Ok(value),
-            _ => Err(D::Error::invalid_value()),
+            _ => Err(D::Error::invalid_type(ValueKind::Binary)),
         }
     }
 
@@ -61,7 +62,7 @@ impl Deserialize for String {
     fn deserialize<D: Deserializer>(_alloc: Global, deserializer: D) -> Result<String, D::Error> {
         match deserializer.into_text() {
             Some(value) => Ok(value),
-            None => Err(D::Error::invalid_value()),
+            None => Err(D::Error::invalid_type(ValueKind::String)),
         }
     }
 
@@ -94,7 +95,7 @@ impl Deserialize for Symbol {
     fn deserialize<D: Deserializer>(_alloc: Global, deserializer: D) -> Result<Symbol, D::Error> {
         match deserializer.open() {
             Content::Symbol(value) => Ok(value),
-            _ => Err(D::Error::invalid_value()),
+            _ => Err(D::Error::invalid_type(ValueKind::Symbol)),
         }
     }
 

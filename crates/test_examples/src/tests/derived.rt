@@ -2,13 +2,14 @@
 //! (AMQP 1.0 part 1, section 1.6).
 
 use example_derived::{
-    Address, Contact, DeliveryNumber, Durability, Expiry, Failure, Limits, Outcome, Position,
+    Address, Contact, DeliveryNumber, Durability, Expiry, Failure, Item, Limits, Outcome, Position,
     Rejected, Role, Shape, Tag,
 };
 use serde_amqp::de::Deserialize;
 use serde_amqp::decode::decode_value;
 use serde_amqp::ser::Serialize;
-use serde_amqp::{Error, from_value, to_vec};
+use serde_amqp::value::ValueKind;
+use serde_amqp::{Error, SliceError, from_slice_located, from_value, to_vec};
 use std::alloc::Global;
 use std::test::Fail;
 
@@ -194,5 +195,29 @@ fn several_values_and_defaults(rt: HostRuntime) -> Result<(), Fail> {
     assert!(rt; gives_at_once::<Limits>(a, b"\x00\x53\x19\xc0\x03\x02\x40\x40", absent)?);
     assert!(rt; comes_back::<Limits>(a, b"\x00\x53\x19\xc0\x05\x02\x40\x60\x00\x07")?);
     assert!(rt; refuses::<Limits>(a, b"\x00\x53\x19\xc0\x04\x02\x40\x50\x07"));
+    Ok(())
+}
+
+// Returns whether the only fault is that the field `sold`, the thirteenth, is a uint and no boolean.
+fn is_sold_a_uint(alloc: Global, bytes: &[u8]) -> bool {
+    match from_slice_located::<Item>(alloc, bytes) {
+        Err(SliceError::Value(error)) => {
+            error.error == Error::InvalidValue
+                && error.field == Some("sold")
+                && error.index == Some(12)
+                && error.wanted == Some(ValueKind::Bool)
+                && error.found == Some(ValueKind::Uint)
+        }
+        _ => false,
+    }
+}
+
+#[test]
+fn a_wrong_field_of_many_is_named(rt: HostRuntime) -> Result<(), Fail> {
+    let uuid = b"\x00\xa3\x09shop:item\xc0\x2a\x0d\x98\0\0\0\0\0\0\0\0\0\0\0\0\0\0\0\0";
+    let mut bytes = Vec::from_slice(rt.alloc(), uuid)?;
+    bytes.extend_from_slice(b"\xa1\x01a\xa3\x01b\x83\0\0\0\0\0\0\0\0\x44\x43\x43")?;
+    bytes.extend_from_slice(b"\x40\x40\x40\x40\x40\x43")?;
+    assert!(rt; is_sold_a_uint(rt.alloc(), &bytes));
     Ok(())
 }

@@ -1,0 +1,94 @@
+//! Decodes one encoded value, and says where the bytes have a fault.
+
+ghost use Rattle.std.specs.Prelude.{◌≡◌, IfOk, IfErr, IfNone, IfSome, OnSome, None};
+ghost use Rattle.amqp_data.specs.declared.error.Error.TheVariants.{OutOfMemory};
+ghost use Rattle.amqp_ser.specs.Tree.{Tree};
+ghost use Rattle.amqp_value.specs.TreeOf.{tree_of};
+ghost use Rattle.amqp_decode.specs.Faults.{DecodeFails};
+ghost use Rattle.amqp_decode.specs.Located.{IsPlace, IsPlaced};
+ghost use Rattle.amqp_decode.specs.Spells.{Spells};
+
+use crate::decode::decode_value;
+use crate::skip::check_values;
+use amqp_data::Error;
+use amqp_value::Value;
+use std::alloc::Global;
+
+/// Where bytes have their first fault.
+#[derive(Clone, Copy, Debug, PartialEq, Eq)]
+pub struct Place {
+    /// The offset of the byte. It is the length of the input if the input ends too early.
+    pub offset: usize,
+    /// The number of lists, maps, arrays and described values that the byte is in.
+    pub depth: u16,
+}
+
+/// An error of decoding, with its place.
+#[derive(Debug, PartialEq, Eq, Drop)]
+pub struct Located {
+    /// The error that `decode_value` returns.
+    pub error: Error,
+    /// Where the bytes have their first fault. `None` if an allocation failed.
+    pub place: Option<Place>,
+}
+
+/// Decodes one encoded value, like `decode_value`, and says where the bytes have their first fault.
+///
+/// If decoding fails, the bytes are read once more, without a value.
+///
+/// # Errors
+/// Returns the error of `decode_value`, with the place of the first fault in the order of the bytes.
+/// A byte that is no format code, the first byte of a value that is too deep, and the code of a
+/// descriptor of another kind are such places. Bytes that end too early have the fault at their
+/// end, and a payload that ends too early at the byte after it. An odd count of a map has it at its
+/// last byte, a scalar at its first byte or at the first character that is not UTF-8, and bytes left
+/// over at the first of them.
+///
+/// # Memory
+/// Allocates from `alloc` as `decode_value` does. The place is found without memory.
+///
+/// # Example
+/// `c003024046`, a list of null and a byte that is no format code, fails with `InvalidFormatCode`
+/// at offset 4 and depth 1.
+pub fn decode_value_located(alloc: Global, bytes: &[u8]) -> Result<Value, Located>
+    ensures ok { IfOk result (λ v. Spells 256 bytes.now (tree_of v)) }
+    ensures err { IfErr result (λ e. ¬ (e.error ≡ OutOfMemory) →
+        (t : Tree) → ¬ Spells 256 bytes.now t) }
+    ensures fault { IfErr result (λ e. DecodeFails 256 bytes.now e.error) }
+    ensures place { IfErr result (λ e. ¬ (e.error ≡ OutOfMemory) → IsPlaced e.place 256 bytes.now) }
+    ensures memory { IfErr result (λ e. e.error ≡ OutOfMemory → e.place ≡ None) }
+{
+    match decode_value(alloc, bytes) {
+        Ok(value) => Ok(value),
+        Err(Error::OutOfMemory) => Err(Located {
+            error: Error::OutOfMemory,
+            place: None,
+        }),
+        Err(error) => Err(Located {
+            error,
+            place: fault_place(bytes),
+        }),
+    }
+}
+
+/// Returns where bytes that are not one encoded value have their first fault, and `None` if they are
+/// one.
+///
+/// # Memory
+/// Allocates nothing.
+///
+/// # Example
+/// `None` for `40`, and offset 1 at depth 0 for `4040`.
+pub fn fault_place(bytes: &[u8]) -> Option<Place>
+    ensures none { IfNone result ((t : Tree) × Spells 256 bytes.now t) }
+    ensures err { OnSome result ((t : Tree) → ¬ Spells 256 bytes.now t) }
+    ensures place { IfSome result (λ p. IsPlace p 256 bytes.now) }
+{
+    match check_values(1, bytes, 256, 0) {
+        Ok(()) => None,
+        Err(spot) => Some(Place {
+            offset: bytes.len().saturating_sub(spot.left),
+            depth: 256u16.saturating_sub(spot.levels),
+        }),
+    }
+}
