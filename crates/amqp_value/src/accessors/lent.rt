@@ -68,7 +68,7 @@ impl Value {
     /// For the map encoded as `c10602a101615001`, `*value.get_mut("a")? = Value::Ubyte(2)` gives the
     /// map encoded as `c10602a101615002`. `None` for `b`.
     pub fn get_mut(&mut self, key: &str) -> Option<&mut Value>
-        ensures* writes_back { sem 𝓛 (lends_text self.entry key.now result) }
+        ensures* writes_back { sem 𝓛 (lends_text key.now self.entry result) }
         ensures value { option_copied_mut result ≡ option_and_then
             (λ map. lookup (has_text key.now) (entries_of map)) (map_in self.old) }
     {
