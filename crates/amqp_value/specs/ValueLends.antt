@@ -1,18 +1,14 @@
 -- A value after a mutable borrow of its content ends.
-use Rattle.std.specs.Prelude.{◌≡◌, ℕ, List, Option, OnSome, Vec, option_map}
-use Rattle.std.specs.Borrow.{Fml, LendsIf, LendsSo, MutBor}
+use Rattle.std.specs.Prelude.{Option, Vec}
+use Rattle.std.specs.Borrow.{Fml, LendsIf, MutBor}
 use Rattle.std.specs.Global.{Global}
-use Rattle.std.specs.Map.{set_value}
 use Rattle.std.specs.contracts.alloc.Global as global
 use Rattle.std.specs.contracts.impls.GlobalAllocator.TheImpl.{ghosts}
 use Rattle.std.specs.contracts.vec.Vec as vec
 use Rattle.amqp_data.specs.declared.array.Array.{Array}
 use Rattle.amqp_data.specs.declared.ordered_map.OrderedMap.{OrderedMap}
-use Rattle.amqp_data.specs.Pairs.{entries_of}
 use Rattle.amqp_data.specs.contracts.array.Array as array
 use Rattle.amqp_data.specs.contracts.ordered_map.OrderedMap as ordered_map
-use Rattle.amqp_value.specs.Accessors.{has_text}
-use Rattle.amqp_value.specs.Contents.{map_in}
 use Rattle.amqp_value.specs.declared.value.Value.{Value}
 use Rattle.amqp_value.specs.declared.value.Value.TheVariants as kind
 use Rattle.amqp_value.specs.contracts.value.Value.{the_row}
@@ -27,11 +23,3 @@ module _ (value : MutBor Value) where
 
   abbrev pub lends_map : Option (MutBor (OrderedMap Value Value)) → Fml
   lends_map entries = LendsIf the_row (ordered_map.the_row the_row the_row) value entries (λ map. kind.Map map) value.now
-
-  -- the first key with this text has the final value of the reference
-  abbrev pub lends_text : List ℕ → Option (MutBor Value) → Fml
-  lends_text text inside =
-      LendsSo the_row the_row value inside
-      (λ after w. OnSome inside
-        (option_map entries_of (map_in after) ≡ option_map (λ map. set_value (has_text text) (entries_of map) w) (map_in value.now)))
-      (λ after. after ≡ value.now)

@@ -7,7 +7,7 @@ ghost use Rattle.std.specs.Option.{option_copied_mut};
 ghost use Rattle.amqp_data.specs.Pairs.{entries_of};
 ghost use Rattle.amqp_value.specs.Accessors.{has_text};
 ghost use Rattle.amqp_value.specs.Contents.{array_in, list_in, map_in};
-ghost use Rattle.amqp_value.specs.ValueLends.{lends_array, lends_list, lends_map, lends_text};
+ghost use Rattle.amqp_value.specs.ValueLends.{lends_array, lends_list, lends_map};
 
 use super::containers::find_position;
 use crate::Value;
@@ -55,28 +55,6 @@ impl Value {
     {
         match self {
             Value::Map(entries) => Some(entries),
-            _ => None,
-        }
-    }
-
-    /// Returns a mutable reference to the value of the first key of a map that is a string or a
-    /// symbol with this text.
-    ///
-    /// The keys are searched in order, and nothing is allocated.
-    ///
-    /// # Example
-    /// For the map encoded as `c10602a101615001`, `*value.get_mut("a")? = Value::Ubyte(2)` gives the
-    /// map encoded as `c10602a101615002`. `None` for `b`.
-    pub fn get_mut(&mut self, key: &str) -> Option<&mut Value>
-        ensures* writes_back { sem 𝓛 (lends_text key.now self.entry result) }
-        ensures value { option_copied_mut result ≡ option_and_then
-            (λ map. lookup (has_text key.now) (entries_of map)) (map_in self.old) }
-    {
-        match self {
-            Value::Map(entries) => {
-                let at = find_position(entries.as_slice(), key)?;
-                entries.value_at_mut(at)
-            }
             _ => None,
         }
     }

@@ -109,9 +109,6 @@ fn changes(rt: &HostRuntime) -> Result<bool, Error> {
         }
         drop(map.remove(&string(rt, "a")?));
     }
-    if let Some(value) = pairs.get_mut("b") {
-        *value = Value::Ubyte(5);
-    }
     let mut items = list(rt, [Value::Ubyte(1), Value::Null]);
     if let Some(list) = items.as_list_mut() {
         drop(list.pop());
@@ -121,7 +118,7 @@ fn changes(rt: &HostRuntime) -> Result<bool, Error> {
         [
             (Value::Ubyte(1), Value::Bool(true)),
             (symbol(rt, "a")?, Value::Ubyte(2)),
-            (string(rt, "b")?, Value::Ubyte(5)),
+            (string(rt, "b")?, Value::Ubyte(4)),
         ],
     );
     Ok(
