@@ -5,7 +5,7 @@
 
 use super::has;
 use super::makers::{symbol, text};
-use amqp_data::F64Bits;
+use serde_amqp::primitives::F64Bits;
 use example_composites::{Begun, Configured, Labelled, Pair, Plain, Shape, Tagged};
 use std::alloc::Global;
 

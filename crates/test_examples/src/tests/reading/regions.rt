@@ -4,8 +4,7 @@
 
 use super::{comes_back, is_invalid, is_other, is_restored, untyped};
 use crate::tests::wrong;
-use amqp_data::Error;
-use amqp_value::Value;
+use serde_amqp::{Error, Value};
 use example_reading::Region;
 use std::alloc::Global;
 
