@@ -9,9 +9,9 @@ ghost use Rattle.serde_amqp.specs.Words.{optional_value, basic_composite, short_
 ghost use Rattle.example_composites.specs.Values.{of_address, of_annotations, of_application, of_message_id, of_value};
 
 use crate::values::{Address, Annotations, MessageId, Milliseconds, SequenceNumber, SimpleValue};
+use serde_amqp::Value;
 use serde_amqp::primitives::{ByteBuf, OrderedMap, Symbol, Timestamp};
 use serde_amqp::ser::{ListOf, Serialize, SerializeCompounds, Serializer, fields};
-use serde_amqp::Value;
 
 /// The header: details of the delivery of a message (AMQP 1.0 part 3, section 3.2.1).
 #[derive(Drop)]

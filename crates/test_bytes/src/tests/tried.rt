@@ -118,7 +118,8 @@ impl Serialize for Parts<'_> {
                 "0": &part,
                 "1": &ListOf(fields! { "0": &part }),
                 "2": &part,
-            }).serialize(serializer),
+            })
+            .serialize(serializer),
         }
     }
 }
@@ -142,5 +143,8 @@ fn is_tried_once(rt: &HostRuntime) -> bool {
 
 #[test]
 fn parts_are_not_tried_after_their_whole(rt: HostRuntime) {
-    assert!(rt; is_tried_once(&rt), "once by the length and by each pass of the bytes");
+    assert!(rt;
+        is_tried_once(&rt),
+        "once by the length and by each pass of the bytes"
+    );
 }

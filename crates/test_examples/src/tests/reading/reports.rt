@@ -3,9 +3,9 @@
 //! Shows readers of `example_reading` a longer composite, byte by byte.
 
 use super::{comes_back, is_invalid, is_restored, reads, symbol, text};
+use example_reading::{Position, Report};
 use serde_amqp::Value;
 use serde_amqp::primitives::{ByteBuf, OrderedMap, Symbol, Timestamp};
-use example_reading::{Position, Report};
 use std::alloc::Global;
 
 #[test]
