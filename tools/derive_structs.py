@@ -128,23 +128,34 @@ def read_bytes(t):
 
 def read_map_bytes(t):
     """The method that reads a map without defaults from its bytes, without a descriptor or with a code."""
-    if not t.fields or t.descriptor() and not t.code or any(f.default for f in t.fields):
+    if not t.fields or t.symbol and not t.code or any(f.default for f in t.fields):
         return ""
-    call, said = ("build_composite_map_encoded", f"{t.code}, ") if t.code else ("build_fields_map_encoded", "")
-    return read_encoded(t, build(t, f"{call}::<{t.name}, _>(alloc, code, input, depth, {said}{seed(t)})"))
+    described = t.code and not t.composite
+    call, said = ("build_composite_map_encoded", f"{t.code}, ") if described else ("build_fields_map_encoded", "")
+    method = "read_body_encoded" if t.composite else "read_encoded"
+    return read_encoded(t, build(t, f"{call}::<{t.name}, _>(alloc, code, input, depth, {said}{seed(t)})"), method)
+
+
+def named_record(t):
+    """The impl of NamedRecord of a map."""
+    if t.encoding != "map":
+        return ""
+    return f"impl NamedRecord for {t.name} {{\n" + ghosts({"names": " ∷ ".join([*(f'codes "{f.name}"' for f in t.fields), "[]"])}) + \
+        "    fn names_are_distinct() {}\n}\n\n"
 
 
 def composite(t):
     """The impls of Composite and Deserialize of a type that is read after its code or its name."""
     image, others = members(t)
-    x = "x" if t.fields else "_"
-    out = f"impl Composite for {t.name} {{\n" + ghosts({
+    x, is_map = "x" if t.fields else "_", t.encoding == "map"
+    out = named_record(t) + f"impl Composite for {t.name} {{\n" + ghosts({
         "descriptor_code": t.code, "descriptor_name": f'codes "{t.symbol}"',
         "reads": f"λ t {x}. {reads_after(t, 't')}", "image": f"λ x. {image}", **others})
     out += f"    fn code() -> u64 {{\n        {t.code}\n    }}\n\n    fn name() -> &'static str {{\n        \"{t.symbol}\"\n    }}\n\n"
-    call = f'{reader(t, "read")}::<{t.name}, D, _>(alloc, deserializer, {seed(t)})' if t.fields else "read_no_fields::<D>(deserializer)"
-    out += f'    fn read_body<D: Deserializer>({"" if t.fields else "_"}alloc: Global, deserializer: D) -> Result<{t.name}, D::Error> {{\n'
-    out += build(t, call) + f"    }}\n{read_bytes(t)}}}\n\n"
+    call = f'{reader(t, "read_fields_map" if is_map else "read")}::<{t.name}, D, _>(alloc, deserializer, {seed(t)})'
+    call = call if t.fields or is_map else "read_no_fields::<D>(deserializer)"
+    out += f'    fn read_body<D: Deserializer>({"" if t.fields or is_map else "_"}alloc: Global, deserializer: D) -> Result<{t.name}, D::Error> {{\n'
+    out += build(t, call) + f"    }}\n{read_map_bytes(t) if is_map else read_bytes(t)}}}\n\n"
     of = lambda name: member(t.name, "Composite", name)
     out += f"impl Deserialize for {t.name} {{\n" + ghosts({
         "reads": f'λ t x. OnComposite {t.code} (codes "{t.symbol}") (λ u. {of("reads")} u x) t',
@@ -157,12 +168,9 @@ def composite(t):
 
 def deserialize(t):
     """The impls of Deserialize, and of NamedRecord for a map, of a type with one descriptor or none."""
-    described, out = t.descriptor(), ""
+    described, out = t.descriptor(), named_record(t)
     image, others = members(t)
     x = "x" if t.fields else "_"
-    if t.encoding == "map":
-        out = f"impl NamedRecord for {t.name} {{\n" + ghosts({"names": " ∷ ".join([*(f'codes "{f.name}"' for f in t.fields), "[]"])})
-        out += "    fn names_are_distinct() {}\n}\n\n"
     reads = f"OnDescribed {described} {reads_after(t)} t" if described else reads_after(t, "t")
     out += f"impl Deserialize for {t.name} {{\n" + ghosts({
         "reads": f"λ t {x}. {reads}", "image": f"λ x. described {described} ({image})" if described else f"λ x. {image}", **others})

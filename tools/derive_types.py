@@ -66,7 +66,7 @@ class Type:
         self.one_pass = "no_one_pass" not in flags
         self.short = self.encoding in ("list", "map") and "full" not in flags
         # read after its code or its name: the trait Composite
-        self.composite = bool(self.code and self.symbol) and self.encoding in ("list", "basic")
+        self.composite = bool(self.code and self.symbol) and not is_enum
         # written and read as its only field
         self.transparent = self.encoding == "basic" and not (self.code or self.symbol)
 

@@ -3,8 +3,8 @@
 --
 -- An absent field is omitted at the end of the list, and null before a present field.
 use Rattle.std.specs.Prelude.{[], ◌∷◌, Option}
-use Rattle.amqp_ser.specs.Tree.{Tree, code}
-use Rattle.amqp_ser.specs.Words.{required_value, optional_value, short_composite, of_bool, of_string, of_symbol, of_u32, of_u64}
+use Rattle.serde_amqp.specs.Tree.{Tree, code}
+use Rattle.serde_amqp.specs.Words.{required_value, optional_value, short_composite, of_bool, of_string, of_symbol, of_u32, of_u64}
 use Rattle.example_composites.specs.Values.{of_fields}
 use Rattle.example_composites.specs.declared.outcomes.Accepted.{Accepted}
 use Rattle.example_composites.specs.declared.outcomes.DeliveryState.{DeliveryState}

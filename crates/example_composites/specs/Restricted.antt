@@ -1,8 +1,8 @@
 -- The trees of types that have a few fixed values (AMQP 1.0 part 2, section 2.8, and part 3,
 -- section 3.5), for the contracts of `src/restricted.rt`.
 use Rattle.std.specs.Prelude.{ℕ, List, Option, Some, true, false, codes}
-use Rattle.amqp_ser.specs.Tree.{Tree, scalar, symbol}
-use Rattle.amqp_ser.specs.Words.{of_bool, of_u8, of_u32}
+use Rattle.serde_amqp.specs.Tree.{Tree, scalar, symbol}
+use Rattle.serde_amqp.specs.Words.{of_bool, of_u8, of_u32}
 use Rattle.example_composites.specs.declared.restricted.Role.{Role}
 use Rattle.example_composites.specs.declared.restricted.Role.TheVariants as role
 use Rattle.example_composites.specs.declared.restricted.SenderSettleMode.{SenderSettleMode}

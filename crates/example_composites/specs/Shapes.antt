@@ -1,9 +1,9 @@
 -- The tree of an enum whose variants have fields: a map of one pair, from the index to the list of
 -- the fields. For the contract of `Shape` in `src/forms.rt`.
 use Rattle.std.specs.Prelude.{[], ◌∷◌, Option}
-use Rattle.amqp_ser.specs.Carried.{optional}
-use Rattle.amqp_ser.specs.Tree.{Tree}
-use Rattle.amqp_ser.specs.Words.{variant_of, of_bool, of_f64, of_string, of_u32}
+use Rattle.serde_amqp.specs.Carried.{optional}
+use Rattle.serde_amqp.specs.Tree.{Tree}
+use Rattle.serde_amqp.specs.Words.{variant_of, of_bool, of_f64, of_string, of_u32}
 use Rattle.example_composites.specs.declared.forms.Shape.{Shape}
 use Rattle.example_composites.specs.declared.forms.Shape.TheVariants as shape
 

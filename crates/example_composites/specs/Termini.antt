@@ -1,8 +1,8 @@
 -- The trees of the source and the target of a link (AMQP 1.0 part 3, sections 3.5.3 and 3.5.4), for
 -- the contracts of `src/termini.rt`.
 use Rattle.std.specs.Prelude.{[], ◌∷◌, Option}
-use Rattle.amqp_ser.specs.Tree.{Tree, code}
-use Rattle.amqp_ser.specs.Words.{optional_value, short_composite, of_bool, of_symbol, of_u32}
+use Rattle.serde_amqp.specs.Tree.{Tree, code}
+use Rattle.serde_amqp.specs.Words.{optional_value, short_composite, of_bool, of_symbol, of_u32}
 use Rattle.example_composites.specs.Outcomes.{of_outcome}
 use Rattle.example_composites.specs.Restricted.{of_distribution, of_durability, of_expiry}
 use Rattle.example_composites.specs.Values.{of_address, of_fields, of_multiple}

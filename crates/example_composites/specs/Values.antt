@@ -3,12 +3,12 @@
 use Rattle.std.specs.Prelude.{Option, Some}
 use Rattle.std.specs.declared.string.String.{String}
 use Rattle.std.specs.declared.alloc.Global.{Global}
-use Rattle.amqp_data.specs.declared.ordered_map.OrderedMap.{OrderedMap}
-use Rattle.amqp_data.specs.declared.symbol.Symbol.{Symbol}
-use Rattle.amqp_ser.specs.Tree.{Tree}
-use Rattle.amqp_ser.specs.Words.{of_null, of_bool, of_u8, of_u16, of_u32, of_u64, of_i8, of_i16, of_i32, of_i64, of_f32, of_f64, of_dec32, of_dec64, of_dec128, of_char, of_timestamp, of_uuid, of_binary, of_string, of_symbol, of_array, of_map}
-use Rattle.amqp_value.specs.TreeOf.{tree_of}
-use Rattle.amqp_value.specs.declared.value.Value.{Value}
+use Rattle.serde_amqp.specs.OrderedMap.{OrderedMap}
+use Rattle.serde_amqp.specs.Symbol.{Symbol}
+use Rattle.serde_amqp.specs.Tree.{Tree}
+use Rattle.serde_amqp.specs.Words.{of_null, of_bool, of_u8, of_u16, of_u32, of_u64, of_i8, of_i16, of_i32, of_i64, of_f32, of_f64, of_dec32, of_dec64, of_dec128, of_char, of_timestamp, of_uuid, of_binary, of_string, of_symbol, of_array, of_map}
+use Rattle.serde_amqp.specs.TreeOf.{tree_of}
+use Rattle.serde_amqp.specs.Value.{Value}
 use Rattle.example_composites.specs.declared.values.Address.{Address}
 use Rattle.example_composites.specs.declared.values.Address.TheVariants as address
 use Rattle.example_composites.specs.declared.values.AnnotationKey.{AnnotationKey}

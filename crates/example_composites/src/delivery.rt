@@ -3,8 +3,8 @@
 //! For readers who need described lists with required and optional fields.
 
 ghost use Rattle.std.specs.Prelude.{◌∷◌, []};
-ghost use Rattle.amqp_ser.specs.Tree.{code};
-ghost use Rattle.amqp_ser.specs.Words.{required_value, optional_value, short_composite, of_binary, of_bool, of_u32};
+ghost use Rattle.serde_amqp.specs.Tree.{code};
+ghost use Rattle.serde_amqp.specs.Words.{required_value, optional_value, short_composite, of_binary, of_bool, of_u32};
 ghost use Rattle.example_composites.specs.Outcomes.{of_state};
 ghost use Rattle.example_composites.specs.Restricted.{of_receiver_mode, of_role};
 ghost use Rattle.example_composites.specs.Values.{of_fields};
@@ -14,7 +14,7 @@ use crate::restricted::{ReceiverSettleMode, Role};
 use crate::values::{
     DeliveryNumber, DeliveryTag, FieldMap, Handle, MessageFormat, SequenceNumber, TransferNumber,
 };
-use amqp_ser::{ListOf, Serialize, SerializeCompounds, Serializer, fields};
+use serde_amqp::ser::{ListOf, Serialize, SerializeCompounds, Serializer, fields};
 
 /// The flow performative, which updates how much may be sent in a session and on a link (AMQP 1.0
 /// part 2, section 2.7.4).

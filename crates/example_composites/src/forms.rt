@@ -5,12 +5,12 @@
 //! time, and fields of generic types.
 
 ghost use Rattle.std.specs.Prelude.{◌∷◌, [], Some, codes, string_bytes};
-ghost use Rattle.amqp_ser.specs.Tree.{code, name, scalar, symbol};
-ghost use Rattle.amqp_ser.specs.Words.{list_composite, list_of, map_composite, required_value, optional_value, short_list_of, short_symbol_map_of, of_bool, of_string, of_symbol, of_u8, of_u32};
+ghost use Rattle.serde_amqp.specs.Tree.{code, name, scalar, symbol};
+ghost use Rattle.serde_amqp.specs.Words.{list_composite, list_of, map_composite, required_value, optional_value, short_list_of, short_symbol_map_of, of_bool, of_string, of_symbol, of_u8, of_u32};
 ghost use Rattle.example_composites.specs.Shapes.{of_shape};
 
-use amqp_data::{F64Bits, Symbol, SymbolRef};
-use amqp_ser::{
+use serde_amqp::primitives::{F64Bits, Symbol, SymbolRef};
+use serde_amqp::ser::{
     ListOf, MapOf, Serialize, SerializeCompounds, Serializer, SymbolMapOf, VariantOf, fields,
 };
 

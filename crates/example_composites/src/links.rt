@@ -3,9 +3,9 @@
 //! For readers who need a long described list: `Attach` has fourteen fields.
 
 ghost use Rattle.std.specs.Prelude.{◌∷◌, []};
-ghost use Rattle.amqp_ser.specs.Carried.{optional};
-ghost use Rattle.amqp_ser.specs.Tree.{code};
-ghost use Rattle.amqp_ser.specs.Words.{required_value, optional_value, short_composite, of_binary, of_bool, of_map, of_string, of_symbol, of_u32, of_u64};
+ghost use Rattle.serde_amqp.specs.Carried.{optional};
+ghost use Rattle.serde_amqp.specs.Tree.{code};
+ghost use Rattle.serde_amqp.specs.Words.{required_value, optional_value, short_composite, of_binary, of_bool, of_map, of_string, of_symbol, of_u32, of_u64};
 ghost use Rattle.example_composites.specs.Outcomes.{of_error, of_state};
 ghost use Rattle.example_composites.specs.Restricted.{of_receiver_mode, of_role, of_sender_mode};
 ghost use Rattle.example_composites.specs.Termini.{of_source, of_target};
@@ -15,8 +15,8 @@ use crate::outcomes::{DeliveryState, ErrorReport};
 use crate::restricted::{ReceiverSettleMode, Role, SenderSettleMode};
 use crate::termini::{Source, Target};
 use crate::values::{DeliveryTag, FieldMap, Handle, Multiple, SequenceNumber};
-use amqp_data::{OrderedMap, Symbol};
-use amqp_ser::{ListOf, Serialize, SerializeCompounds, Serializer, fields};
+use serde_amqp::primitives::{OrderedMap, Symbol};
+use serde_amqp::ser::{ListOf, Serialize, SerializeCompounds, Serializer, fields};
 
 /// The attach performative, which attaches a link (AMQP 1.0 part 2, section 2.7.3).
 ///

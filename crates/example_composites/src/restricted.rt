@@ -5,8 +5,8 @@
 ghost use Rattle.std.specs.Prelude.{◌≡◌};
 ghost use Rattle.example_composites.specs.Restricted.{distribution_name, expiry_name, of_distribution, of_durability, of_expiry, of_receiver_mode, of_role, of_sender_mode};
 
-use amqp_data::SymbolRef;
-use amqp_ser::{Serialize, Serializer};
+use serde_amqp::primitives::SymbolRef;
+use serde_amqp::ser::{Serialize, Serializer};
 
 /// The role of an endpoint of a link (AMQP 1.0 part 2, section 2.8.1).
 #[derive(Clone, Copy)]

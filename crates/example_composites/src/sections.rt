@@ -4,14 +4,14 @@
 //! or a value of any type.
 
 ghost use Rattle.std.specs.Prelude.{◌∷◌, [], map};
-ghost use Rattle.amqp_ser.specs.Tree.{code};
-ghost use Rattle.amqp_ser.specs.Words.{optional_value, basic_composite, short_composite, list_of, of_binary, of_bool, of_string, of_symbol, of_timestamp, of_u8, of_u32};
+ghost use Rattle.serde_amqp.specs.Tree.{code};
+ghost use Rattle.serde_amqp.specs.Words.{optional_value, basic_composite, short_composite, list_of, of_binary, of_bool, of_string, of_symbol, of_timestamp, of_u8, of_u32};
 ghost use Rattle.example_composites.specs.Values.{of_address, of_annotations, of_application, of_message_id, of_value};
 
 use crate::values::{Address, Annotations, MessageId, Milliseconds, SequenceNumber, SimpleValue};
-use amqp_data::{ByteBuf, OrderedMap, Symbol, Timestamp};
-use amqp_ser::{ListOf, Serialize, SerializeCompounds, Serializer, fields};
-use amqp_value::Value;
+use serde_amqp::Value;
+use serde_amqp::primitives::{ByteBuf, OrderedMap, Symbol, Timestamp};
+use serde_amqp::ser::{ListOf, Serialize, SerializeCompounds, Serializer, fields};
 
 /// The header: details of the delivery of a message (AMQP 1.0 part 3, section 3.2.1).
 #[derive(Drop)]

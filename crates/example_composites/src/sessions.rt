@@ -3,15 +3,15 @@
 //! For readers who need described lists with required and optional fields.
 
 ghost use Rattle.std.specs.Prelude.{◌∷◌, []};
-ghost use Rattle.amqp_ser.specs.Tree.{code};
-ghost use Rattle.amqp_ser.specs.Words.{required_value, optional_value, short_composite, of_string, of_symbol, of_u16, of_u32};
+ghost use Rattle.serde_amqp.specs.Tree.{code};
+ghost use Rattle.serde_amqp.specs.Words.{required_value, optional_value, short_composite, of_string, of_symbol, of_u16, of_u32};
 ghost use Rattle.example_composites.specs.Outcomes.{of_error};
 ghost use Rattle.example_composites.specs.Values.{of_fields, of_multiple};
 
 use crate::outcomes::ErrorReport;
 use crate::values::{FieldMap, Handle, LanguageTag, Milliseconds, Multiple, TransferNumber};
-use amqp_data::Symbol;
-use amqp_ser::{ListOf, Serialize, SerializeCompounds, Serializer, fields};
+use serde_amqp::primitives::Symbol;
+use serde_amqp::ser::{ListOf, Serialize, SerializeCompounds, Serializer, fields};
 
 /// The open performative, which opens a connection (AMQP 1.0 part 2, section 2.7.1).
 #[derive(Drop)]

@@ -7,8 +7,8 @@ ghost use Rattle.example_composites.specs.Termini.{of_source, of_target};
 use crate::outcomes::Outcome;
 use crate::restricted::{DistributionMode, TerminusDurability, TerminusExpiryPolicy};
 use crate::values::{Address, FieldMap, Multiple, Seconds};
-use amqp_data::Symbol;
-use amqp_ser::{ListOf, Serialize, SerializeCompounds, Serializer, fields};
+use serde_amqp::primitives::Symbol;
+use serde_amqp::ser::{ListOf, Serialize, SerializeCompounds, Serializer, fields};
 
 /// The source of a link: where its messages come from (AMQP 1.0 part 3, section 3.5.3).
 #[derive(Drop)]

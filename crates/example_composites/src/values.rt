@@ -5,11 +5,11 @@
 
 ghost use Rattle.example_composites.specs.Values.{of_address, of_annotation_key, of_message_id, of_multiple, of_simple};
 
-use amqp_data::{
+use serde_amqp::Value;
+use serde_amqp::primitives::{
     Array, ByteBuf, Dec32, Dec64, Dec128, F32Bits, F64Bits, OrderedMap, Symbol, Timestamp, Uuid,
 };
-use amqp_ser::{Serialize, SerializeScalars, Serializer};
-use amqp_value::Value;
+use serde_amqp::ser::{Serialize, SerializeScalars, Serializer};
 
 /// The number of a link in its session (AMQP 1.0 part 2, section 2.8.4).
 pub type Handle = u32;

@@ -13,6 +13,7 @@ mod outcome;
 mod parcel;
 mod report;
 mod restricted;
+mod stall;
 
 pub use catalogue::{Contact, Product, Shop};
 pub use choices::{Address, DeliveryNumber, Shape, Tag};
@@ -23,3 +24,4 @@ pub use outcome::{Accepted, Modified, Outcome};
 pub use parcel::{Envelope, Label, Parcel, Receipt};
 pub use report::{Position, Report};
 pub use restricted::{Durability, Expiry, Role, Unit};
+pub use stall::{Colour, Price, Stall};

@@ -4,10 +4,10 @@
 use Rattle.std.specs.Prelude.{ℕ, [], ◌∷◌, Option}
 use Rattle.std.specs.declared.string.String.{String}
 use Rattle.std.specs.declared.alloc.Global.{Global}
-use Rattle.amqp_de.specs.declared.enums.variants.Never.{Never}
-use Rattle.amqp_de.specs.declared.enums.variants.Either.{Either}
-use Rattle.amqp_de.specs.declared.enums.variants.Either.TheVariants.{This, Other}
-use Rattle.amqp_de.specs.declared.fields.FieldValues.{FieldValues}
+use Rattle.serde_amqp.specs.Never.{Never}
+use Rattle.serde_amqp.specs.Either.{Either}
+use Rattle.serde_amqp.specs.Either.TheVariants.{This, Other}
+use Rattle.serde_amqp.specs.FieldValues.{FieldValues}
 use Rattle.serde_amqp.specs.Parts.{◌▸◌}
 use Rattle.serde_amqp.specs.Carried.{optional}
 use Rattle.serde_amqp.specs.Compounds.{tree_of_parts}

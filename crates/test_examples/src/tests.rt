@@ -8,8 +8,7 @@ mod composites;
 mod derived;
 mod reading;
 
-use amqp_data::Error;
-use amqp_value::Value;
+use serde_amqp::{Error, Value};
 
 /// Prints the name of the row and the result, and returns `false`.
 fn wrong(rt: &HostRuntime, name: &str, got: &str) -> bool {

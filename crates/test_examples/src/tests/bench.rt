@@ -6,10 +6,7 @@
 mod prefixes;
 
 use super::wrong_number;
-use amqp_data::Error;
-use amqp_size::serialized_size;
-use amqp_to_value::to_value;
-use amqp_value::Value;
+use serde_amqp::{Error, Value, serialized_size, to_value};
 use std::alloc::Global;
 use tool_shapes::{Chain, hash_of, read_chain, run_maps, run_shape, run_work};
 

@@ -9,9 +9,8 @@ mod performatives;
 mod rows;
 
 use super::{wrong, wrong_error, wrong_number};
-use amqp_ser::Serialize;
-use amqp_size::serialized_size;
-use amqp_wire::to_vec;
+use serde_amqp::ser::Serialize;
+use serde_amqp::{serialized_size, to_vec};
 
 /// Returns `true` if `bytes` is the encoding of the value, and their number the length that
 /// `serialized_size` returns.

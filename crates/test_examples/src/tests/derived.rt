@@ -1,6 +1,9 @@
 //! Encodings that are read as a type and written again, and encodings that are refused
 //! (AMQP 1.0 part 1, section 1.6).
 
+mod parcels;
+mod stalls;
+
 use example_derived::{
     Address, Contact, DeliveryNumber, Durability, Expiry, Failure, Item, Limits, Outcome, Position,
     Rejected, Role, Shape, Tag,

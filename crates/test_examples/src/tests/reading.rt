@@ -11,14 +11,12 @@ mod reports;
 mod variants;
 
 use super::{wrong, wrong_error, wrong_value};
-use amqp_data::{Error, Symbol};
-use amqp_de::de::Deserialize;
-use amqp_decode::decode_value;
-use amqp_from_value::from_value;
-use amqp_round_trip::{RoundTrip, round_trip};
-use amqp_ser::Serialize;
-use amqp_to_value::to_value;
-use amqp_value::Value;
+use serde_amqp::de::Deserialize;
+use serde_amqp::decode::decode_value;
+use serde_amqp::primitives::Symbol;
+use serde_amqp::ser::Serialize;
+use serde_amqp::value::{RoundTrip, round_trip};
+use serde_amqp::{Error, Value, from_value, to_value};
 use std::alloc::Global;
 
 /// Returns `true` if `bytes` encode the untyped value of `value`, and `value` is read back from

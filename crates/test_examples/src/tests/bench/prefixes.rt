@@ -2,11 +2,10 @@
 //! finds no encoded value in it, and `decode_value` returns `Error::UnexpectedEof`.
 
 use super::wrong_number;
-use amqp_data::Error;
-use amqp_decode::decode_value;
-use amqp_frame::frame_len;
-use amqp_ser::Serialize;
-use amqp_wire::to_vec;
+use serde_amqp::decode::decode_value;
+use serde_amqp::lazy::frame_len;
+use serde_amqp::ser::Serialize;
+use serde_amqp::{Error, to_vec};
 use tool_shapes::{
     Attach, Chain, DescribedAttach, FedDescribedFields, FedFields, blob, ints, numbered, rows,
 };

@@ -5,8 +5,8 @@
 
 use super::has;
 use super::makers::{symbol, text};
-use amqp_data::F64Bits;
 use example_composites::{Begun, Configured, Labelled, Pair, Plain, Shape, Tagged};
+use serde_amqp::primitives::F64Bits;
 use std::alloc::Global;
 
 #[test]

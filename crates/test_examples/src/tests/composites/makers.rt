@@ -2,12 +2,14 @@
 //!
 //! If an allocation fails, the value or field is `None`, so that the row fails.
 
-use amqp_data::{Array, ByteBuf, Described, Descriptor, OrderedMap, Symbol};
-use amqp_value::Value;
 use example_composites::{
     Address, DistributionMode, ErrorReport, FieldMap, Multiple, Outcome, Released, Source, Target,
     TerminusDurability, TerminusExpiryPolicy,
 };
+use serde_amqp::Value;
+use serde_amqp::described::Described;
+use serde_amqp::descriptor::Descriptor;
+use serde_amqp::primitives::{Array, ByteBuf, OrderedMap, Symbol};
 use std::alloc::Global;
 
 pub fn text(a: Global, s: &str) -> Option<String> {

@@ -4,12 +4,12 @@
 
 use super::makers::{address, binary, string, symbol, text};
 use super::{has, rows};
-use amqp_data::{F32Bits, OrderedMap, Timestamp, Uuid};
-use amqp_value::Value;
 use example_composites::{
     AmqpSequence, AmqpValue, AnnotationKey, Annotations, ApplicationProperties, Data,
     DeliveryAnnotations, Footer, Header, MessageAnnotations, MessageId, Properties, SimpleValue,
 };
+use serde_amqp::Value;
+use serde_amqp::primitives::{F32Bits, OrderedMap, Timestamp, Uuid};
 use std::alloc::Global;
 
 #[test]

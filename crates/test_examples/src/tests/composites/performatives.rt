@@ -6,13 +6,13 @@ use super::makers::{
     bare_source, binary, error, field, many, no_target, one, source, string, symbol, target, text,
 };
 use super::{has, rows};
-use amqp_data::{ByteBuf, OrderedMap};
-use amqp_value::Value;
 use example_composites::{
     Accepted, Attach, Begin, Close, DeliveryState, Detach, Disposition, End, ErrorReport, Flow,
     Modified, Open, Outcome, Received, ReceiverSettleMode, Rejected, Released, Role,
     SenderSettleMode, Transfer,
 };
+use serde_amqp::Value;
+use serde_amqp::primitives::{ByteBuf, OrderedMap};
 use std::alloc::Global;
 
 #[test]

@@ -3,8 +3,8 @@
 //! Shows readers of `example_reading` which descriptors and forms are valid.
 
 use super::{comes_back, is_invalid, is_restored, reads, symbol, text};
-use amqp_data::Symbol;
 use example_reading::{Calibration, Contact, Limits, Span, Title};
+use serde_amqp::primitives::Symbol;
 use std::alloc::Global;
 
 #[test]

@@ -3,8 +3,8 @@
 //! Shows readers of `example_reading` collections as fields and symbols as descriptors.
 
 use super::{comes_back, is_invalid, is_restored, reads, symbol, text, untyped};
-use amqp_data::OrderedMap;
 use example_reading::{Day, Rain};
+use serde_amqp::primitives::OrderedMap;
 use std::alloc::Global;
 use std::collections::BTreeMap;
 

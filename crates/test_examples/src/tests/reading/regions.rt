@@ -4,9 +4,8 @@
 
 use super::{comes_back, is_invalid, is_other, is_restored, untyped};
 use crate::tests::wrong;
-use amqp_data::Error;
-use amqp_value::Value;
 use example_reading::Region;
+use serde_amqp::{Error, Value};
 use std::alloc::Global;
 
 #[test]

@@ -3,9 +3,9 @@
 //! Shows readers of `example_reading` a longer composite, byte by byte.
 
 use super::{comes_back, is_invalid, is_restored, reads, symbol, text};
-use amqp_data::{ByteBuf, OrderedMap, Symbol, Timestamp};
-use amqp_value::Value;
 use example_reading::{Position, Report};
+use serde_amqp::Value;
+use serde_amqp::primitives::{ByteBuf, OrderedMap, Symbol, Timestamp};
 use std::alloc::Global;
 
 #[test]

@@ -3,8 +3,8 @@
 //! Shows readers of `example_reading` the forms of a variant, and the errors for other values.
 
 use super::{comes_back, is_invalid, is_refused, reads, text};
-use amqp_data::Error;
 use example_reading::Sky;
+use serde_amqp::Error;
 use std::alloc::Global;
 
 #[test]
