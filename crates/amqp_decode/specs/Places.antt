@@ -5,7 +5,7 @@
 -- byte of the count, a scalar at the start of its content or of the character that is not UTF-8, a
 -- descriptor of another kind at its code, and bytes left over at the first of them.
 use Rattle.std.specs.Prelude.{◌≡◌, ℕ, zero, suc, ◌+◌, ◌-◌, ◌%◌, ◌==◌, Bool, true, false, if◌then◌else◌, List, [], ◌∷◌, length, Option, Some, None}
-use Rattle.core.specs.Str.Lossy.{utf8_valid_len}
+use Rattle.std.specs.Str.Lossy.{utf8_valid_len}
 use Rattle.amqp_data.specs.FormatCode.{code_of}
 use Rattle.amqp_data.specs.declared.format_code.EncodingCodes.{EncodingCodes}
 use Rattle.amqp_data.specs.declared.format_code.EncodingCodes.TheVariants as code
