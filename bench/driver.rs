@@ -1,17 +1,19 @@
-//! Runs the encoders on the shapes: `plain.rs`, `values.rs` and the project, which is linked as a static library.
+//! Runs the encoders on the shapes: `plain.rs`, `values.rs` and the project, which is linked as one static library.
 //!
 //!     driver list                          each contender, shape and operation that answers, with the answer of one run
 //!     driver run WHO SHAPE OP TIMES        one call, to be counted from outside
 //!     driver maps KIND COUNT OP TIMES      maps read by the project, to be counted from outside
-//!     driver reads                         each type that is read from bytes: WHO is `hand` or `project`, and the bytes' length
+//!     driver reads                         each type that is read from bytes: WHO is `hand`, `project` or `walked`, and the bytes' length
 //!     driver reads WHO INDEX TIMES         the type with this index, to be counted from outside
+//!     driver keep SEED ROUNDS              the digest of the job `keep`, to be counted from outside
 //!     driver count WHO SHAPE OP            allocations and bytes asked for by one run (where built with --cfg count)
 //!     driver time [OP]                     the least ns of one run, of that operation alone
+//!     driver time reads                    the least ns of reading each type by the project and by Qpid Proton
 //!
 //! Operations: 0 the size, 1 the bytes in a fresh vector, 2 the hash (FNV-1a) of the bytes, 3 an untyped value,
 //! 4 the text of an untyped value that stands ready, in a fresh string, 5 an untyped value read from the bytes, 6 as 3,
 //! and the value read out of it, 7 to 9 as 0 to 2 of an untyped value that stands ready, 10 the bytes by an encoder that is
-//! kept. Where built with --cfg proton, Qpid Proton reads the bytes too.
+//! kept. Where built with --cfg proton, Qpid Proton reads the bytes too: `proton` into its tree, `walked` visits that tree.
 
 mod plain;
 mod values;
@@ -54,9 +56,8 @@ const TYPED: u32 = 7;
 /// The work of the library whose value is the untyped one that the data encodes.
 const UNTYPED: u32 = 2;
 
-/// The operation that writes by an encoder that is kept, and what the library calls it.
+/// The operation that writes by an encoder that is kept.
 const KEPT: u32 = 10;
-const KEPT_THERE: u32 = 7;
 
 /// The operations that answer with a hash: it is compared and not measured.
 const HASHES: [u32; 2] = [2, 9];
@@ -71,14 +72,16 @@ enum Who {
     Values,
     Project,
     Proton,
+    Walked,
 }
 
-const WHO: [(&str, Who); 5] = [
+const WHO: [(&str, Who); 6] = [
     ("table", Who::Table),
     ("buffers", Who::Buffers),
     ("values", Who::Values),
     ("project", Who::Project),
     ("proton", Who::Proton),
+    ("walked", Who::Walked),
 ];
 
 unsafe extern "C" {
@@ -86,6 +89,8 @@ unsafe extern "C" {
     fn amqp_bench(work: u32, op: u32, data: *const u8, len: usize, times: u64) -> u64;
     fn amqp_maps(kind: u32, count: u32, op: u32, times: u64) -> u64;
     fn amqp_read(kind: u32, data: *const u8, len: usize, times: u64) -> u64;
+    fn amqp_kept(shape: u32, times: u64) -> u64;
+    fn amqp_keep(seed: u64, rounds: u64) -> u64;
 }
 
 /// What is read from bytes as a type: the number of the type in the library, and how many entries a map has.
@@ -353,6 +358,9 @@ fn reads(who: &str, index: usize, times: u64) -> u64 {
     if who == "project" {
         return unsafe { amqp_read(kind, bytes.as_ptr(), bytes.len(), times) };
     }
+    if who == "walked" {
+        return (0..times).map(|_| proton::read(black_box(&bytes), true)).sum();
+    }
     let read = match kind {
         0 => read_by_hand::<typed::Attach>,
         1 => read_by_hand::<Vec<i32>>,
@@ -378,16 +386,53 @@ mod proton {
     //! Reading by Qpid Proton's codec, with a fresh tree each time.
     use std::ffi::{c_char, c_void};
 
+    /// The first kind that has nodes inside.
+    const DESCRIBED: i32 = 22;
+
+    /// A scalar, or the length and the place of its bytes.
+    #[repr(C)]
+    struct Atom {
+        kind: i32,
+        value: [u64; 2],
+    }
+
     unsafe extern "C" {
         fn pn_data(capacity: usize) -> *mut c_void;
         fn pn_data_decode(data: *mut c_void, bytes: *const c_char, size: usize) -> isize;
         fn pn_data_free(data: *mut c_void);
+        fn pn_data_rewind(data: *mut c_void);
+        fn pn_data_next(data: *mut c_void) -> bool;
+        fn pn_data_type(data: *mut c_void) -> i32;
+        fn pn_data_enter(data: *mut c_void) -> bool;
+        fn pn_data_exit(data: *mut c_void) -> bool;
+        fn pn_data_get_atom(data: *mut c_void) -> Atom;
     }
 
-    pub fn read(bytes: &[u8]) -> u64 {
+    /// Visits each node once and takes its scalar. Texts are not copied.
+    unsafe fn walk(data: *mut c_void) -> u64 {
+        let mut sum = 0u64;
+        unsafe {
+            while pn_data_next(data) {
+                if pn_data_type(data) < DESCRIBED {
+                    sum = sum.wrapping_add(pn_data_get_atom(data).value[0]);
+                } else {
+                    pn_data_enter(data);
+                    sum = sum.wrapping_add(walk(data));
+                    pn_data_exit(data);
+                }
+            }
+        }
+        sum
+    }
+
+    pub fn read(bytes: &[u8], is_walked: bool) -> u64 {
         unsafe {
             let data = pn_data(16);
             let taken = pn_data_decode(data, bytes.as_ptr().cast(), bytes.len());
+            if is_walked {
+                pn_data_rewind(data);
+                std::hint::black_box(walk(data));
+            }
             pn_data_free(data);
             u64::from(taken == bytes.len() as isize)
         }
@@ -396,15 +441,12 @@ mod proton {
 
 #[cfg(not(proton))]
 mod proton {
-    pub fn read(_: &[u8]) -> u64 {
+    pub fn read(_: &[u8], _: bool) -> u64 {
         0
     }
 }
 
 fn repeat<T: Serialize>(who: Who, v: &T, op: u32, times: u64) -> u64 {
-    if op == KEPT {
-        return 0;
-    }
     if !matches!(who, Who::Table | Who::Buffers) {
         return on_bytes(who, &plain::table(v).unwrap(), op, times);
     }
@@ -421,7 +463,7 @@ fn repeat<T: Serialize>(who: Who, v: &T, op: u32, times: u64) -> u64 {
 fn on_bytes(who: Who, bytes: &[u8], op: u32, times: u64) -> u64 {
     match who {
         Who::Project => unsafe { amqp_bench(UNTYPED, op - TYPED, bytes.as_ptr(), bytes.len(), times) },
-        Who::Proton if op == READ => (0..times).map(|_| proton::read(black_box(bytes))).sum(),
+        Who::Proton | Who::Walked if op == READ => (0..times).map(|_| proton::read(black_box(bytes), who == Who::Walked)).sum(),
         Who::Values if op == READ => (0..times).map(|_| decoded(black_box(bytes))).sum(),
         Who::Values if op == 4 || op >= TYPED => on_value(&values::decode(bytes).unwrap(), op, times),
         _ => 0,
@@ -443,23 +485,24 @@ fn on_value(v: &Value, op: u32, times: u64) -> u64 {
 
 /// An operation on a shape that has no type here, but the untyped value.
 fn untyped(who: Who, v: Value, op: u32, times: u64) -> u64 {
-    match who {
-        _ if op == KEPT => 0,
-        Who::Project | Who::Values => on_bytes(who, &values::bytes::to_vec(&v).unwrap(), op, times),
-        _ => 0,
-    }
+    on_bytes(who, &values::bytes::to_vec(&v).unwrap(), op, times)
 }
 
 fn answer(who: Who, shape: usize, op: u32, times: u64) -> u64 {
     let source = SHAPES[shape].1;
-    if who == Who::Project && (op < TYPED || op == KEPT) {
-        let op = if op == KEPT { KEPT_THERE } else { op };
+    if who == Who::Project && op < TYPED {
         return match source {
             Rule(rule) => unsafe { amqp_shape(rule, op, times) },
             Data(work) => {
                 let data = data(work);
                 unsafe { amqp_bench(work, op, data.as_ptr(), data.len(), times) }
             }
+        };
+    }
+    if op == KEPT {
+        return match source {
+            Rule(rule) if who == Who::Project => unsafe { amqp_kept(rule, times) },
+            _ => 0,
         };
     }
     match source {
@@ -551,31 +594,34 @@ fn now() -> f64 {
     at.seconds as f64 + at.nanoseconds as f64 * 1e-9
 }
 
-fn burst(who: Who, shape: usize, op: u32, times: u64) -> f64 {
+/// What is timed: its name, and a call that does it a number of times.
+type Timed = (String, Box<dyn Fn(u64) -> u64>);
+
+fn burst(call: &dyn Fn(u64) -> u64, times: u64) -> f64 {
     let start = now();
-    black_box(answer(who, shape, op, times));
+    black_box(call(times));
     now() - start
 }
 
 /// The least of many short bursts in turn: what building the value takes is in a burst of n and in one of 2 n.
-fn time(rows: &[(usize, Who, usize, u32)]) {
+fn time(rows: &[Timed]) {
     let mut least = Vec::new();
-    for (_, who, shape, op) in rows {
+    for (_, call) in rows {
         let mut n = 4;
-        while burst(*who, *shape, *op, n) < 0.004 && n < 1 << 22 {
+        while burst(call, n) < 0.004 && n < 1 << 22 {
             n *= 2;
         }
         least.push((n, f64::MAX, f64::MAX));
     }
     for _ in 0..40 {
-        for (at, (_, who, shape, op)) in rows.iter().enumerate() {
+        for (at, (_, call)) in rows.iter().enumerate() {
             let (n, once, twice) = &mut least[at];
-            *once = once.min(burst(*who, *shape, *op, *n));
-            *twice = twice.min(burst(*who, *shape, *op, 2 * *n));
+            *once = once.min(burst(call, *n));
+            *twice = twice.min(burst(call, 2 * *n));
         }
     }
-    for ((name, _, shape, op), (n, once, twice)) in rows.iter().zip(least) {
-        println!("{} {shape} {op} {:.2}", WHO[*name].0, (twice - once) / n as f64 * 1e9);
+    for ((name, _), (n, once, twice)) in rows.iter().zip(least) {
+        println!("{name} {:.2}", (twice - once) / n as f64 * 1e9);
     }
 }
 
@@ -589,6 +635,7 @@ fn main() {
             let read = unsafe { amqp_maps(number(2) as u32, number(3) as u32, number(4) as u32, number(5)) };
             assert_eq!(read, number(5), "the maps are not read");
         }
+        "keep" => println!("{:016x}", unsafe { amqp_keep(number(2), number(3)) }),
         "reads" if words.len() < 4 => {
             for (index, (name, ..)) in READS.iter().enumerate() {
                 for who in ["hand", "project"] {
@@ -598,12 +645,17 @@ fn main() {
             }
         }
         "reads" => assert_eq!(reads(&words[2], number(3) as usize, number(4)), number(4)),
+        "time" if words.len() > 2 && words[2] == "reads" => {
+            let pairs = (0..READS.len()).flat_map(|index| [(index, "project"), (index, "walked")]);
+            let row = |(index, who)| -> Timed { (format!("{who} {index}"), Box::new(move |times| reads(who, index, times))) };
+            time(&pairs.map(row).collect::<Vec<_>>());
+        }
         "count" => {
             let (calls, bytes) = count(who(2), number(3) as usize, number(4) as u32);
             println!("{calls} {bytes}");
         }
         command => {
-            let mut rows = Vec::new();
+            let mut rows: Vec<Timed> = Vec::new();
             for shape in 0..SHAPES.len() {
                 for (name, (_, who)) in WHO.iter().enumerate() {
                     for op in 0..OPERATIONS {
@@ -611,7 +663,8 @@ fn main() {
                         if found != 0 && command == "list" {
                             println!("{} {shape} {op} {found} {}", WHO[name].0, SHAPES[shape].0);
                         } else if found != 0 && !HASHES.contains(&op) && (words.len() < 3 || op as u64 == number(2)) {
-                            rows.push((name, *who, shape, op));
+                            let call = move |times| answer(*who, shape, op, times);
+                            rows.push((format!("{} {shape} {op}", WHO[name].0), Box::new(call)));
                         }
                     }
                 }

@@ -5,8 +5,8 @@
 Needs rt, rustc and ar, and valgrind for the instructions. --library takes a library that stands ready, made by --keep:
 FOLDER/libamqp.a is the project with the kit's heap functions, in one file. --jobs takes a built program tool_jobs, whose
 workloads are counted. --check measures the project's instructions and allocations alone, compares them with the tables of
-README.md, and fails where one is more than three percent above them. --proton measures reading untyped values beside Qpid
-Proton alone, and needs libqpid-proton11-dev.
+README.md, and fails where one is more than three percent above them. --proton measures reading untyped values and types
+beside Qpid Proton alone, and needs libqpid-proton11-dev.
 """
 import datetime
 import os
@@ -17,6 +17,8 @@ import tempfile
 
 HERE = os.path.dirname(os.path.abspath(__file__))
 CRATES = os.path.join(HERE, '..', 'crates')
+# Code that one place calls is in line there: so what writes by a kept encoder has a library of its own.
+LIBRARIES = ['tool_bench', 'tool_reads']
 CALLS = {0: 'size', 1: 'bytes', 3: 'value', 4: 'text', 5: 'read', 6: 'typed', 7: 'untyped size', 8: 'untyped bytes', 10: 'kept'}
 READ, UNTYPED_SIZE, UNTYPED_BYTES = 5, 7, 8
 # The calls that answer with the length of the bytes, and those that answer with the hash.
@@ -61,15 +63,28 @@ def run(words, **more):
 
 
 def library(folder):
-    """The project's static library and the kit's heap functions, in one file."""
-    crate = os.path.join(CRATES, 'tool_bench')
-    subprocess.run(['rt', 'lib'], cwd=crate, check=True, stdout=subprocess.DEVNULL)
+    """The project's static libraries and the kit's heap functions, in one file."""
     kit = os.path.dirname(run(['rt', 'doc']).strip())
-    for made in [os.path.join(crate, 'out', 'libtool_bench.a'), os.path.join(kit, 'c', 'liblibc_c.a')]:
-        run(['ar', 'x', os.path.abspath(made)], cwd=folder)
-    parts = [part for part in os.listdir(folder) if part.endswith('.o')]
-    run(['ar', 'rcs', 'libamqp.a'] + parts, cwd=folder)
-    return os.path.join(folder, 'libamqp.a')
+    made = [os.path.join(kit, 'c', 'liblibc_c.a')]
+    for name in LIBRARIES:
+        crate = os.path.join(CRATES, name)
+        subprocess.run(['rt', 'lib'], cwd=crate, check=True, stdout=subprocess.DEVNULL)
+        made.append(os.path.join(crate, 'out', 'lib%s.a' % name))
+    return merged(folder, made)
+
+
+def merged(folder, made):
+    """One library of several, of which parts may have the same name."""
+    out, parts = os.path.join(folder, 'libamqp.a'), []
+    for index, one in enumerate(made):
+        inside = os.path.join(folder, 'parts%d' % index)
+        os.makedirs(inside, exist_ok=True)
+        run(['ar', 'x', os.path.abspath(one)], cwd=inside)
+        parts += [os.path.join(inside, part) for part in sorted(os.listdir(inside))]
+    if os.path.exists(out):
+        os.remove(out)
+    run(['ar', 'qcs', out] + parts)
+    return out
 
 
 # The processor that `rt lib` builds for is x86-64-v2 too.
@@ -112,13 +127,16 @@ def reads(plain, who):
     return found
 
 
-def workloads(program):
-    """The instructions of a part of the rounds of each workload, with the seed 1."""
+def workloads(program, plain):
+    """The instructions of a part of the rounds of each workload, with the seed 1. `keep` writes what `send` writes."""
     found = {}
     for line in open(os.path.join(HERE, 'workloads.txt')):
         name, _, *words, rounds = line.split()
-        words = ['1' if word == 'SEED' else word for word in words]
-        found[name, 'instructions'] = counted([program] + words + [str(int(rounds) // PART)])
+        words = ['1' if word == 'SEED' else word for word in words] + [str(int(rounds) // PART)]
+        found[name, 'instructions'] = counted([program] + words)
+        if name == 'send':
+            assert run([plain, 'keep'] + words[1:]) == run([program] + words), 'keep writes other bytes than send'
+            found['keep', 'instructions'] = counted([plain, 'keep'] + words[1:])
     return found
 
 
@@ -154,7 +172,7 @@ def main():
     wraps = ['-C', 'link-arg=-Wl,--wrap=malloc,--wrap=realloc', '--cfg', 'count']
     counting = driver(folder, made, 'counting', wraps)
     if '--check' in sys.argv:
-        more = {**reads(plain, FROM_SLICE), **maps(plain), **workloads(arg('--jobs') or jobs())}
+        more = {**reads(plain, FROM_SLICE), **maps(plain), **workloads(arg('--jobs') or jobs(), plain)}
         sys.exit(check(*answers(plain, counting, ['project']), more))
     names, size, found = answers(plain, counting, WHO)
     if '--no-time' not in sys.argv:
@@ -166,12 +184,12 @@ def main():
         targets(names, found)
         types(plain)
         others('Map', READS, maps(plain))
-        others('Workload', ['instructions'], workloads(arg('--jobs') or jobs()))
+        others('Workload', ['instructions'], workloads(arg('--jobs') or jobs(), plain))
 
 
 def beside_proton(built):
-    """Prints what reading takes, with a tree or value that is made and freed each time."""
-    both, names, ns = ['project', 'proton'], {}, {}
+    """Prints what reading untyped values, and types, takes beside Proton: what is read is freed each time."""
+    names, ns = {}, {}
     for line in run([built, 'list']).splitlines():
         one, shape, call, answer, name = line.split(' ', 4)
         if one == 'proton':
@@ -180,13 +198,29 @@ def beside_proton(built):
         for line in run([built, 'time', str(READ)]).splitlines():
             who, shape, call, least = line.split()
             ns[who, shape] = float(least)
-    heading(['Shape', 'instructions: project', 'Proton', 'Proton / project', 'ns: project', 'Proton', 'Proton / project'])
+        for line in run([built, 'time', 'reads']).splitlines():
+            who, index, least = line.split()
+            ns[who, 'type', index] = float(least)
+    parts = ['Proton', 'and its tree', 'Proton / project', 'and its tree']
+    heading(['Shape', 'instructions: project'] + parts + ['ns: project'] + parts)
     for shape, name in names.items():
-        count = [instructions([built, 'run', who, shape, str(READ)]) for who in both]
-        least = [ns.get((who, shape)) for who in both]
-        row = [name] + ['%d' % one for one in count] + ['%.1f' % (count[1] / count[0])]
-        row += ['%.0f' % one for one in least] + ['%.1f' % (least[1] / least[0])] if all(least) else ['-'] * 3
-        print(line_of(row))
+        who = ['project', 'proton', 'walked']
+        show_beside(name, [instructions([built, 'run', one, shape, str(READ)]) for one in who], [ns.get((one, shape)) for one in who])
+    print()
+    heading(['Type', 'instructions: ' + FROM_SLICE, 'Proton', 'Proton / project', 'ns: ' + FROM_SLICE, 'Proton', 'Proton / project'])
+    for line in run([built, 'reads']).splitlines():
+        index, _, name = line.split(' ', 2)
+        who = ['project', 'walked']
+        show_beside(name, [instructions([built, 'reads', one, index]) for one in who], [ns.get((one, 'type', index)) for one in who])
+
+
+def show_beside(name, counts, least):
+    """Prints a row: the counts and times of the project, those of Proton, and how many times the project's they are."""
+    row = [name]
+    for figures in (counts, least):
+        ratios = ['%.1f' % (one / figures[0]) if all(figures) else '-' for one in figures[1:]]
+        row += ['%.0f' % one if one else '-' for one in figures] + [one if one == '-' or float(one) >= 1 else '**%s**' % one for one in ratios]
+    print(line_of(row))
 
 
 def line_of(cells):

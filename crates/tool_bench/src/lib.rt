@@ -1,17 +1,16 @@
-//! The operations of `tool_shapes` and `tool_reads`, as a static library with four functions for C.
+//! The operations of `tool_shapes`, as a static library with three functions for C.
 #![tactic(auto)]
 
 ghost use Rattle.std.specs.Prelude.{◌≡◌, ◌≤◌};
 
 use std::alloc::Global;
-use tool_reads::run_read;
 use tool_shapes::{run_maps, run_shape, run_work};
 
 /// Returns the result of `run_work`.
 #[unsafe(no_mangle)]
 pub extern "C" fn amqp_bench(alloc: Global, work: u32, op: u32, data: &[u8], times: u64) -> u64
     ensures works { 5 ≤ work → result ≡ 0 }
-    ensures operations { 8 ≤ op → result ≡ 0 }
+    ensures operations { 7 ≤ op → result ≡ 0 }
 {
     run_work(alloc, work, op, data, times)
 }
@@ -20,7 +19,7 @@ pub extern "C" fn amqp_bench(alloc: Global, work: u32, op: u32, data: &[u8], tim
 #[unsafe(no_mangle)]
 pub extern "C" fn amqp_shape(alloc: Global, shape: u32, op: u32, times: u64) -> u64
     ensures shapes { 11 ≤ shape → result ≡ 0 }
-    ensures operations { 8 ≤ op → result ≡ 0 }
+    ensures operations { 7 ≤ op → result ≡ 0 }
 {
     run_shape(alloc, shape, op, times)
 }
@@ -32,12 +31,4 @@ pub extern "C" fn amqp_maps(alloc: Global, kind: u32, count: u32, op: u32, times
     ensures operations { 2 ≤ op → result ≡ 0 }
 {
     run_maps(alloc, kind, count, op, times)
-}
-
-/// Returns the result of `run_read`.
-#[unsafe(no_mangle)]
-pub extern "C" fn amqp_read(alloc: Global, kind: u32, data: &[u8], times: u64) -> u64
-    ensures { 10 ≤ kind → result ≡ 0 }
-{
-    run_read(alloc, kind, data, times)
 }

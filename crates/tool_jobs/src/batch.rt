@@ -1,15 +1,14 @@
 //! Batches: rows, arrays and maps that are written, converted, decoded and read as types.
 
 use crate::batch_maps::{convert_ordered, convert_sorted};
-use crate::digest::Digest;
 use crate::numbers::{Mixed, mixed_rows, moments, numbers, ordered, rows, sorted, words};
-use crate::random::Random;
 use serde_amqp::de::Deserialize;
 use serde_amqp::decode::decode_value;
 use serde_amqp::primitives::{Array, Timestamp};
 use serde_amqp::ser::Serialize;
 use serde_amqp::{Error, from_value, to_value, to_vec};
 use std::alloc::Global;
+use tool_shapes::{Digest, Random};
 
 /// Converts `rounds` times new rows, arrays, lists of texts and maps, with a part of the elements, in
 /// percent.

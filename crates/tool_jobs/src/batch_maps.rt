@@ -1,11 +1,11 @@
 //! Maps that are written, converted, decoded and read as types.
 
 use crate::batch::convert;
-use crate::digest::Digest;
 use serde_amqp::Error;
 use serde_amqp::primitives::OrderedMap;
 use std::alloc::Global;
 use std::collections::BTreeMap;
+use tool_shapes::Digest;
 
 /// Converts a sorted map.
 pub fn convert_sorted(

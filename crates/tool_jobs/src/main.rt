@@ -7,7 +7,6 @@
 //! | Job | Work |
 //! |---|---|
 //! | `send` | lengths and bytes of the performatives and sections of messages |
-//! | `keep` | the bytes of `send`, by one `Encoder` |
 //! | `receive` | sections taken off a reader, decoded, and read as types |
 //! | `typed` | the same as `receive`, and the same digest; sections are read as types from their bytes |
 //! | `route` | maps decoded, searched, changed, compared and written again |
@@ -19,27 +18,21 @@
 mod awkward;
 mod batch;
 mod batch_maps;
-mod digest;
-mod keep;
 mod long_forms;
-mod messages;
 mod numbers;
 mod one_byte;
 mod places;
-mod random;
 mod receive;
 mod route;
 mod sections;
 mod send;
 mod show;
-mod texts;
 
-use digest::Digest;
-use random::Random;
 use serde_amqp::Error;
 use std::alloc::Global;
 use std::env::Env;
 use std::process::ExitCode;
+use tool_shapes::{Digest, Random};
 
 fn main(rt: HostRuntime) -> ExitCode {
     let mut word = [0; 16];
@@ -59,7 +52,6 @@ fn main(rt: HostRuntime) -> ExitCode {
 // Runs a small number of rounds of every job.
 fn run_all(rt: &(impl Print + AllocGlobal)) -> Result<(), Error> {
     print_digest(rt, b"send", 1, 2, 5)?;
-    print_digest(rt, b"keep", 1, 2, 5)?;
     print_digest(rt, b"receive", 1, 2, 5)?;
     print_digest(rt, b"typed", 1, 2, 5)?;
     print_digest(rt, b"route", 1, 2, 5)?;
@@ -117,7 +109,6 @@ fn run_job(
 ) -> Result<(), Error> {
     match job {
         b"send" => send::run(alloc, random, rounds, digest),
-        b"keep" => keep::run(alloc, random, rounds, digest),
         b"receive" => receive::run(alloc, random, rounds, digest),
         b"typed" => receive::typed::run(alloc, random, rounds, digest),
         b"route" => route::run(alloc, random, rounds, digest),

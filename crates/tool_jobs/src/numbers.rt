@@ -1,11 +1,11 @@
 //! Rows, arrays and maps of numbers and texts.
 
-use crate::messages::moment;
-use crate::random::Random;
 use serde_amqp::Error;
 use serde_amqp::primitives::{Array, OrderedMap, Timestamp};
 use std::alloc::Global;
 use std::collections::BTreeMap;
+use tool_shapes::Random;
+use tool_shapes::messages::moment;
 
 /// A row of mixed columns.
 pub type Mixed = (u32, String, bool, Timestamp);

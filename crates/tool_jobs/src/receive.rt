@@ -3,11 +3,8 @@
 
 pub mod typed;
 
-use crate::digest::Digest;
 use crate::long_forms::put_section;
-use crate::messages::Message;
 use crate::places::{LONG_MARKER, MARKER, Marked};
-use crate::random::Random;
 use crate::sections::{Header, Properties};
 use example_composites::{AnnotationKey, SimpleValue};
 use serde_amqp::decode::decode_value;
@@ -18,6 +15,8 @@ use serde_amqp::ser::Serialize;
 use serde_amqp::{Error, Value, from_value, to_vec};
 use std::alloc::Global;
 use std::io::BufReader;
+use tool_shapes::messages::Message;
+use tool_shapes::{Digest, Random};
 
 /// Receives `rounds` times 64 messages, every other one in the longest encodings.
 pub fn run(

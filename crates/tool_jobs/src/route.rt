@@ -1,14 +1,13 @@
 //! A router that looks up properties of messages, adds an annotation and sends the map on.
 
-use crate::digest::Digest;
-use crate::messages::moment;
 use crate::places::{LONG_MARKER, Marked};
-use crate::random::Random;
-use crate::texts::{name, uuid};
 use serde_amqp::decode::decode_value;
 use serde_amqp::primitives::{OrderedMap, Symbol, Timestamp};
 use serde_amqp::{Error, Value, serialized_size, to_vec};
 use std::alloc::Global;
+use tool_shapes::messages::moment;
+use tool_shapes::texts::{name, uuid};
+use tool_shapes::{Digest, Random};
 
 /// The bytes of a map, and three keys: two of them in the map.
 #[derive(Drop)]

@@ -1,11 +1,10 @@
 //! A client that writes each part of its messages: first the length, then the bytes.
 
-use crate::digest::Digest;
-use crate::messages::{Message, disposition, flow};
-use crate::random::Random;
 use serde_amqp::ser::Serialize;
 use serde_amqp::{Error, serialized_size, to_vec};
 use std::alloc::Global;
+use tool_shapes::messages::{Message, disposition, flow};
+use tool_shapes::{Digest, Random};
 
 /// Writes `rounds` times 64 messages.
 pub fn run(

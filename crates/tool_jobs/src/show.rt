@@ -1,12 +1,9 @@
 //! A diagnostic tool: texts of values, a line for each encoded value of a capture, and the report on
 //! the lines of a text.
 
-use crate::digest::Digest;
 use crate::places::{LONG_MARKER, Marked};
-use crate::random::Random;
 use crate::receive::encoded;
 use crate::route::property;
-use crate::texts::mixed;
 use serde_amqp::decode::decode_value;
 use serde_amqp::lazy::LazyValue;
 use serde_amqp::primitives::{Array, ByteBuf, F64Bits, OrderedMap, Timestamp};
@@ -14,6 +11,8 @@ use serde_amqp::read::{IoReader, Read, SliceReader};
 use serde_amqp::{Error, Value, VecWriter, run_cut, run_lines, to_vec};
 use std::alloc::Global;
 use std::io::BufReader;
+use tool_shapes::texts::mixed;
+use tool_shapes::{Digest, Random};
 
 /// Shows `rounds` times the values of a capture, cuts the capture twice and reports on a text.
 pub fn run(

@@ -8,7 +8,6 @@ use crate::hash::hash_of;
 use amqp_data::Error;
 use amqp_de::de::Deserialize;
 use amqp_decode::decode_value;
-use amqp_encode::Encoder;
 use amqp_from_value::from_value;
 use amqp_ser::Serialize;
 use amqp_size::serialized_size;
@@ -126,35 +125,6 @@ fn lengths_of_texts<T: Serialize>(alloc: Global, value: &T, times: u64) -> u64 {
     }
 }
 
-/// Writes a value by an encoder that is kept, and adds the number of bytes to `sum`. Returns whether
-/// the value was written.
-#[inline(never)]
-fn add_kept<T: Serialize>(encoder: &mut Encoder, value: &T, sum: &mut u64) -> bool {
-    match encoder.encode(value) {
-        Ok(bytes) => {
-            *sum = sum.wrapping_add(bytes.len() as u64);
-            true
-        }
-        Err(_) => false,
-    }
-}
-
-/// Returns the sum of `times` lengths of the bytes, written by one encoder, or 0 if a call fails.
-fn lengths_kept<T: Serialize>(alloc: Global, value: &T, times: u64) -> u64 {
-    let mut encoder = Encoder::new(alloc);
-    let mut sum: u64 = 0;
-    if !add_kept(&mut encoder, value, &mut sum) {
-        return 0;
-    }
-    sum = 0;
-    for _ in 0..times {
-        if !add_kept(&mut encoder, value, &mut sum) {
-            return 0;
-        }
-    }
-    sum
-}
-
 /// Returns the hash of the bytes of a value, or 0 if the value cannot be written.
 fn hash_of_bytes<T: Serialize>(alloc: Global, value: &T) -> u64 {
     match to_vec(alloc, value) {
@@ -205,9 +175,8 @@ pub fn repeat<T: Serialize>(alloc: Global, value: &T, op: u32, times: u64) -> u6
     sum
 }
 
-/// Like `repeat`, with two more operations: 6 returns the number of values deserialized, each from a
-/// new untyped value, and 7 the sum of `times` lengths of the bytes that one encoder writes, after a
-/// first time.
+/// Like `repeat`, with the additional operation 6, which returns the number of values deserialized,
+/// each from a new untyped value.
 ///
 /// # Memory
 /// Allocates from `alloc`. What a round allocates is freed at the end of the round.
@@ -217,11 +186,8 @@ pub fn repeat_typed<T: Serialize + Deserialize + Drop>(
     op: u32,
     times: u64,
 ) -> u64
-    ensures { 8 ≤ op → result ≡ 0 }
+    ensures { 7 ≤ op → result ≡ 0 }
 {
-    if op == 7 {
-        return lengths_kept(alloc, value, times);
-    }
     if op != 6 {
         return repeat(alloc, value, op, times);
     }

@@ -22,7 +22,7 @@ fn answer<T: Serialize + Deserialize + Drop>(
     op: u32,
     times: u64,
 ) -> u64
-    ensures { 8 ≤ op → result ≡ 0 }
+    ensures { 7 ≤ op → result ≡ 0 }
 {
     match built {
         Ok(value) => repeat_typed(alloc, &value, op, times),
@@ -32,7 +32,7 @@ fn answer<T: Serialize + Deserialize + Drop>(
 
 /// Returns the result of an operation on a chain of 256 lists.
 fn chained(alloc: Global, op: u32, times: u64) -> u64
-    ensures { 8 ≤ op → result ≡ 0 }
+    ensures { 7 ≤ op → result ≡ 0 }
 {
     match Chain::of_links(alloc, 255) {
         Ok(chain) => repeat_chain(alloc, &chain, op, times),
@@ -42,7 +42,7 @@ fn chained(alloc: Global, op: u32, times: u64) -> u64
 
 /// Returns the result of an operation on the fields of `Attach` in one of three other forms.
 fn attached(alloc: Global, form: u32, op: u32, times: u64) -> u64
-    ensures { 8 ≤ op → result ≡ 0 }
+    ensures { 7 ≤ op → result ≡ 0 }
 {
     let Ok(attach) = Attach::example(alloc) else {
         return 0;
@@ -56,7 +56,7 @@ fn attached(alloc: Global, form: u32, op: u32, times: u64) -> u64
 
 /// Returns the result of an operation on a message with untyped application properties.
 fn messaged(alloc: Global, op: u32, times: u64) -> u64
-    ensures { 8 ≤ op → result ≡ 0 }
+    ensures { 7 ≤ op → result ≡ 0 }
 {
     match Message::example(alloc) {
         Ok(message) => repeat(alloc, &message, op, times),
@@ -70,16 +70,15 @@ fn messaged(alloc: Global, op: u32, times: u64) -> u64
 /// of four bytes each. The value of works 2 to 4 is the untyped value encoded in the data.
 ///
 /// Operation 0 computes sizes, 1 writes bytes, 2 hashes the bytes, 3 builds untyped values, 4 writes
-/// texts, 5 decodes untyped values from the bytes, 6 deserializes values from untyped values, and 7
-/// writes bytes by one encoder, after a first time. The result is the sum of `times` sizes or
-/// lengths, the hash, or the number of values. For any other work or operation, and if a call fails,
-/// it is 0.
+/// texts, 5 decodes untyped values from the bytes, and 6 deserializes values from untyped values.
+/// The result is the sum of `times` sizes or lengths, the hash, or the number of values. For any
+/// other work or operation, and if a call fails, it is 0.
 ///
 /// # Memory
 /// Allocates from `alloc`, and frees all of it before it returns.
 pub fn run_work(alloc: Global, work: u32, op: u32, data: &[u8], times: u64) -> u64
     ensures works { 5 ≤ work → result ≡ 0 }
-    ensures operations { 8 ≤ op → result ≡ 0 }
+    ensures operations { 7 ≤ op → result ≡ 0 }
 {
     match work {
         0 => answer(alloc, lines(alloc, data), op, times),
@@ -102,7 +101,7 @@ pub fn run_work(alloc: Global, work: u32, op: u32, data: &[u8], times: u64) -> u
 /// Allocates from `alloc`, and frees all of it before it returns.
 pub fn run_shape(alloc: Global, shape: u32, op: u32, times: u64) -> u64
     ensures shapes { 11 ≤ shape → result ≡ 0 }
-    ensures operations { 8 ≤ op → result ≡ 0 }
+    ensures operations { 7 ≤ op → result ≡ 0 }
 {
     match shape {
         0 => answer(alloc, Attach::example(alloc), op, times),

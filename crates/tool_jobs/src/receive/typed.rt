@@ -2,9 +2,7 @@
 //! undecoded.
 
 use super::{add_header, add_properties, content, encoded};
-use crate::digest::Digest;
 use crate::places::Marked;
-use crate::random::Random;
 use crate::sections::{Header, Properties};
 use serde_amqp::de::Deserialize;
 use serde_amqp::described::Described;
@@ -14,6 +12,7 @@ use serde_amqp::read::{IoReader, Read};
 use serde_amqp::{Error, Value, from_slice};
 use std::alloc::Global;
 use std::io::BufReader;
+use tool_shapes::{Digest, Random};
 
 /// The application properties after their descriptor.
 type Application = Described<OrderedMap<String, Value>>;

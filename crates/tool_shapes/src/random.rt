@@ -2,7 +2,7 @@
 
 ghost use Rattle.std.specs.Prelude.{◌<◌};
 
-use serde_amqp::Error;
+use amqp_data::Error;
 use std::alloc::Global;
 
 /// A generator of pseudorandom numbers.

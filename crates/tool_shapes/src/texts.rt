@@ -1,8 +1,7 @@
 //! Texts and bytes of the sizes that applications use.
 
 use crate::random::Random;
-use serde_amqp::Error;
-use serde_amqp::primitives::{ByteBuf, Symbol, Uuid};
+use amqp_data::{ByteBuf, Error, Symbol, Uuid};
 use std::alloc::Global;
 
 /// Returns an address or an identifier of 10 to 60 letters.

@@ -1,19 +1,26 @@
-//! A client that writes the messages of `send` by one encoder, which keeps its buffers.
+//! The job `send` of `tool_jobs` by one encoder, which keeps its buffers.
 
-use crate::digest::Digest;
-use crate::messages::{Message, disposition, flow};
-use crate::random::Random;
 use serde_amqp::ser::Serialize;
 use serde_amqp::{Encoder, Error};
 use std::alloc::Global;
+use tool_shapes::messages::{Message, disposition, flow};
+use tool_shapes::{Digest, Random};
 
-/// Writes `rounds` times 64 messages.
-pub fn run(
-    alloc: Global,
-    random: &mut Random,
-    rounds: u64,
-    digest: &mut Digest,
-) -> Result<(), Error> {
+/// Writes the messages that `send` makes from the seed, and returns the digest of their lengths and
+/// bytes, or 0 if a call fails.
+///
+/// # Memory
+/// Allocates from `alloc`, and frees all of it before it returns.
+pub fn run_keep(alloc: Global, seed: u64, rounds: u64) -> u64 {
+    let mut digest = Digest::new();
+    match run(alloc, &mut Random::new(seed), rounds, &mut digest) {
+        Ok(()) => digest.value(),
+        Err(_) => 0,
+    }
+}
+
+// Writes `rounds` times 64 messages.
+fn run(alloc: Global, random: &mut Random, rounds: u64, digest: &mut Digest) -> Result<(), Error> {
     let pool = random.bytes(alloc, 65_536)?;
     let mut messages = Vec::new(alloc);
     for _ in 0..64u32 {

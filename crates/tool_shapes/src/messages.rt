@@ -2,12 +2,12 @@
 
 use crate::random::Random;
 use crate::texts::{body, body_len, name, symbol, uuid};
+use amqp_data::{ByteBuf, Error, F64Bits, OrderedMap, Symbol, Timestamp};
+use amqp_value::Value;
 use example_composites::{
     Accepted, Address, AnnotationKey, ApplicationProperties, Data, DeliveryState, Disposition,
     Flow, Header, MessageAnnotations, MessageId, Outcome, Properties, Role, SimpleValue, Transfer,
 };
-use serde_amqp::primitives::{ByteBuf, F64Bits, OrderedMap, Symbol, Timestamp};
-use serde_amqp::{Error, Value};
 use std::alloc::Global;
 
 /// A message with its transfer.

@@ -1,7 +1,7 @@
 //! A digest of results.
 
-use serde_amqp::primitives::OrderedMap;
-use serde_amqp::{Error, Value};
+use amqp_data::{Error, OrderedMap};
+use amqp_value::Value;
 
 /// A digest of numbers, bytes and values, eight bytes at a time.
 #[derive(Drop)]
