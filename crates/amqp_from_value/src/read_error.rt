@@ -66,7 +66,11 @@ impl DeserializeError for ReadError {
     }
 
     fn missing_field(name: &'static str) -> ReadError {
-        without_place(Error::InvalidValue).in_field(name)
+        let mut error = without_place(Error::InvalidValue);
+        if !name.is_empty() {
+            error.field = Some(name);
+        }
+        error
     }
 
     fn in_field(self, name: &'static str) -> ReadError {
