@@ -35,7 +35,7 @@ fn map(alloc: Global) -> Result<Value, Error> {
     Ok(Value::Map(map))
 }
 
-fn fields_of_a_map<F: de::FieldSeeds<Values = FieldValues<u32, ()>>>(
+fn fields_of_a_map<F: de::FieldSeeds<Values = FieldValues<u32, ()>> + Drop>(
     alloc: Global,
     fields: F,
 ) -> Result<FieldValues<u32, ()>, Error> {
