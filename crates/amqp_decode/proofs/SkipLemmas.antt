@@ -270,7 +270,6 @@ module _ (d : ℕ) (c : EncodingCodes) (s : List ℕ) where
     pub no_list-content : shape_of_code c ≡ shape.List k → (skips (parse d) n body ≡ Some [] → ⊥) → content_of (parse d) (parse_content d) c s ≡ None
     no_list-content is left = rw (is, e) (not-list (parse d) n body left)
 
-
     pub map-content : shape_of_code c ≡ shape.Map k → n % 2 ≡ 0 → skips (parse d) n body ≡ Some [] → (t : Tree) × (content_of (parse d) (parse_content d) c s ≡ Some t)
     map-content is even filled =
         let h = map-found (parse d) n body even filled in

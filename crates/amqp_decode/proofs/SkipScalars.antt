@@ -81,6 +81,7 @@ truth-other b = first (b == 0)
     second : (x : Bool) → and_then (and_then (if x then Some (bool true) else None) scalar_tree) tree_descriptor ≡ None
     second true = refl
     second false = refl
+
     first : (x : Bool) → and_then (and_then (if x then Some (bool false) else if b == 1 then Some (bool true) else None) scalar_tree) tree_descriptor ≡ None
     first true = refl
     first false = second (b == 1)

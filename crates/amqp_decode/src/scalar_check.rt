@@ -112,10 +112,8 @@ fn is_scalar(code: EncodingCodes, content: &[u8]) -> bool
         | EncodingCodes::Timestamp
         | EncodingCodes::Decimal64 => content.len() == 8,
         EncodingCodes::Decimal128 | EncodingCodes::Uuid => content.len() == 16,
-        EncodingCodes::Str8
-        | EncodingCodes::Str32
-        | EncodingCodes::Sym8
-        | EncodingCodes::Sym32 => is_utf8(content),
+        EncodingCodes::Str8 | EncodingCodes::Str32 | EncodingCodes::Sym8 | EncodingCodes::Sym32 =>
+            is_utf8(content),
         EncodingCodes::DescribedType
         | EncodingCodes::List0
         | EncodingCodes::List8

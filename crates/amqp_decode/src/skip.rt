@@ -60,12 +60,7 @@ fn skip_described(bytes: &[u8], depth: u16, after: usize) -> Result<&[u8], Spot>
 
 // Skips the payload of this code, of a value with at most `depth` levels.
 #[cycle(skip)]
-fn skip_payload(
-    code: EncodingCodes,
-    bytes: &[u8],
-    depth: u16,
-    after: usize,
-) -> Result<&[u8], Spot>
+fn skip_payload(code: EncodingCodes, bytes: &[u8], depth: u16, after: usize) -> Result<&[u8], Spot>
     requires fits { length bytes.now + after < 2 ^ 64 }
     requires above { 0 < depth }
     ensures ok { IfOk result (λ rest. (t : Tree) ×
@@ -89,12 +84,7 @@ fn skip_payload(
 
 // Checks the content of a payload of this code. `depth` limits the values inside.
 #[cycle(skip)]
-fn check_content(
-    code: EncodingCodes,
-    content: &[u8],
-    depth: u16,
-    after: usize,
-) -> Result<(), Spot>
+fn check_content(code: EncodingCodes, content: &[u8], depth: u16, after: usize) -> Result<(), Spot>
     requires fits { length content.now + after < 2 ^ 64 }
     requires below { depth + 1 < 2 ^ 16 }
     ensures ok { OnOk result ((t : Tree) ×
@@ -221,12 +211,7 @@ fn check_items(
 
 // Skips the payload of this code at the start of `bytes`, as an array element.
 #[cycle(skip)]
-fn skip_item(
-    code: EncodingCodes,
-    bytes: &[u8],
-    depth: u16,
-    after: usize,
-) -> Result<&[u8], Spot>
+fn skip_item(code: EncodingCodes, bytes: &[u8], depth: u16, after: usize) -> Result<&[u8], Spot>
     requires fits { length bytes.now + after < 2 ^ 64 }
     ensures ok { IfOk result (λ rest. (t : Tree) ×
         (payload_in (parse_content depth) code bytes.now ≡ Some (t, rest.now))) }

@@ -57,7 +57,10 @@ fn place_of<T: Deserialize>(alloc: Global, bytes: &[u8]) -> Result<String, Error
     if by_value != by_slice {
         return Err(Error::Message("another place by from_slice_located"));
     }
-    match (from_value::<T>(alloc, decode_value(alloc, bytes)?), by_value) {
+    match (
+        from_value::<T>(alloc, decode_value(alloc, bytes)?),
+        by_value,
+    ) {
         (Ok(_), None) => Ok(String::from_str(alloc, "read")?),
         (Err(Error::OutOfMemory), _) => Err(Error::OutOfMemory),
         (Err(wanted), Some(error)) if wanted == error.error => shown(alloc, &error),

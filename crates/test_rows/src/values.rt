@@ -3,9 +3,7 @@
 use crate::notation::{bytes_of, number_of, word_of};
 use crate::row::refusal;
 use amqp_data::Error;
-use amqp_decode::{
-    Located, decode_value, decode_value_limited, decode_value_located, fault_place,
-};
+use amqp_decode::{Located, decode_value, decode_value_limited, decode_value_located, fault_place};
 use amqp_frame::{LazyValue, SliceReader};
 use amqp_ser::Whole as _;
 use amqp_size::serialized_size;
@@ -37,10 +35,12 @@ pub fn decode_within(alloc: Global, arguments: &str) -> Result<String, Error> {
 pub fn place(alloc: Global, bytes: &[u8]) -> Result<String, Error> {
     let (error, place) = match decode_value_located(alloc, bytes) {
         Ok(_) => (None, None),
-        Err(Located {
-            error: Error::OutOfMemory,
-            place: None,
-        }) => return Err(Error::OutOfMemory),
+        Err(
+            Located {
+                error: Error::OutOfMemory,
+                place: None,
+            },
+        ) => return Err(Error::OutOfMemory),
         Err(Located { error, place }) => (Some(error), place),
     };
     if fault_place(bytes) != place {
