@@ -1,10 +1,19 @@
-//! Evaluates rows about frames: prints each line of the input, followed by the result of its call.
+//! Evaluates rows about AMQP's own types: prints each line of the input, followed by the result of
+//! its call.
 //!
 //! A row is the name of a call and its arguments, with bytes in hexadecimal, `-` for none. A line
 //! that begins with `#` is a comment. Comments and empty lines are printed unchanged.
 //!
 //! | Row | Result |
 //! |---|---|
+//! | `type TYPE BYTES` | the bytes by which the value of this type is written |
+//! | `described TYPE BYTES` | these bytes; those by which it is written if the name of the descriptor is in place of its code; how many proper prefixes of the bytes are read |
+//! | `default TYPE BYTES` | what the value's methods `_or_default` return, in the order of the fields |
+//! | `section BYTES` | the bytes by which the value is written, and its `Debug` text |
+//! | `message BYTES` | the bytes by which the message is written, and the lazy message; the `Debug` text |
+//! | `lazy BYTES` | the bare message, the body and the footer of the lazy message |
+//! | `changed BYTES` | the lazy message with another header and without annotations |
+//! | `sections BYTES` | the kind and the bytes of each section |
 //! | `frame CHANNEL BYTES PAYLOAD` | the frame with this performative and this payload |
 //! | `frame_within LIMIT BYTES PAYLOAD` | the same of a frame of SASL, of at most this size |
 //! | `frames BYTES` | for each frame: its channel, the performative as untyped value, and the payload |
@@ -17,8 +26,12 @@
 #![tactic(auto)]
 
 mod frames;
+mod kinds;
 mod limits;
+mod messages;
 mod row;
+mod standard;
+mod types;
 mod words;
 
 use std::io;
