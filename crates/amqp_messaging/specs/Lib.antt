@@ -1,0 +1,4 @@
+pub mod Messages
+pub mod Parts
+pub mod Sections
+pub mod Unknown

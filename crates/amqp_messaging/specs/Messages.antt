@@ -1,0 +1,62 @@
+-- Messages that are read and written: their parts as sections (AMQP 1.0 part 3, section 3.2).
+use Rattle.std.specs.Prelude.{◌≡◌, ◌⊎◌, ℕ, List, [], ◌∷◌, ◌++◌, Option, Some, None}
+use Rattle.amqp_data.specs.Items.{transparent_items}
+use Rattle.amqp_data.specs.declared.error.Error.{Error}
+use Rattle.amqp_ser.specs.Encoding.{encoding}
+use Rattle.amqp_ser.specs.Tree.{Tree}
+use Rattle.amqp_from_slice.specs.ReadsSpelled.{ReadsSpelled}
+use Rattle.amqp_messaging.specs.Parts.{RefusesParts}
+use Rattle.amqp_messaging.specs.declared.bodies.AmqpSequence.{AmqpSequence}
+use Rattle.amqp_messaging.specs.declared.bodies.AmqpValue.{AmqpValue}
+use Rattle.amqp_messaging.specs.declared.bodies.Data.{Data}
+use Rattle.amqp_messaging.specs.declared.message.content.Body.{Body}
+use Rattle.amqp_messaging.specs.declared.message.content.Body.TheVariants as body
+use Rattle.amqp_messaging.specs.declared.message.error.MessageError.{MessageError}
+use Rattle.amqp_messaging.specs.declared.message.error.MessageError.TheVariants as error
+
+-- The part is read as the section, or both are absent.
+abbrev pub ReadsPart : {T : Type 0} → (Tree → T → Type 0) → List ℕ → Option T → Type 0
+ReadsPart R s None = s ≡ []
+ReadsPart R s (Some x) = ReadsSpelled R s x
+
+-- The bytes are read as these sections, one after another.
+pub data ReadsAll {T : Type 0} (R : Tree → T → Type 0) : List ℕ → List T → Type 0 where
+  none : ReadsAll R [] []
+  more : (s bytes : List ℕ) (xs : List T) (x : T) → ReadsAll R s xs → ReadsSpelled R bytes x
+      → ReadsAll R (s ++ bytes) (xs ++ x ∷ [])
+
+-- The bytes are read as the body, by how each kind of section is read.
+abbrev pub ReadsBody : (Tree → Data → Type 0) → (Tree → AmqpSequence → Type 0) → (Tree → AmqpValue → Type 0) → List ℕ → Body → Type 0
+ReadsBody D S V s (body.Data v) = ReadsAll D s (transparent_items v)
+ReadsBody D S V s (body.Sequence v) = ReadsAll S s (transparent_items v)
+ReadsBody D S V s (body.Value x) = ReadsSpelled V s x
+
+-- A section cannot be read, or an allocation failed.
+abbrev pub IsValueError : MessageError → Type 0
+IsValueError e = (f : Error) × (e ≡ error.Value f)
+
+-- Why the bytes are not read as a message: they have not its parts, or one cannot be read.
+abbrev pub RefusesMessage : List ℕ → MessageError → Type 0
+RefusesMessage s e = RefusesParts s e ⊎ IsValueError e
+
+-- The bytes are these with the encoding of the tree after them.
+abbrev pub PutsTree : Option Tree → List ℕ → List ℕ → Type 0
+PutsTree None s all = ⊥
+PutsTree (Some t) s all = all ≡ s ++ encoding t
+
+-- The bytes are these with a section after them, if there is one.
+abbrev pub PutsSection : {T : Type 0} → (T → Option Tree) → List ℕ → List ℕ → Option T → Type 0
+PutsSection f s all None = all ≡ s
+PutsSection f s all (Some x) = PutsTree (f x) s all
+
+-- The bytes are these with the sections before a bare message after them.
+abbrev pub PutsFront : {H D M : Type 0} → (H → Option Tree) → (D → Option Tree) → (M → Option Tree)
+    → List ℕ → List ℕ → Option H → Option D → Option M → Type 0
+PutsFront f g h s all x y z =
+    (t u : List ℕ) × PutsSection f s t x × PutsSection g t u y × PutsSection h u all z
+
+-- The bytes are these with a bare message after them.
+abbrev pub PutsBare : {P A B : Type 0} → (P → Option Tree) → (A → Option Tree) → (B → Option Tree)
+    → List ℕ → List ℕ → Option P → Option A → B → Type 0
+PutsBare f g h s all x y b =
+    (t u : List ℕ) × PutsSection f s t x × PutsSection g t u y × PutsTree (h b) u all

@@ -1,0 +1,112 @@
+//! Messages whose body is not decoded.
+
+ghost use Rattle.std.specs.Prelude.{◌≡◌, ◌++◌, [], List, ℕ, IfOk, IfErr};
+ghost use Rattle.amqp_messaging.specs.Messages.{PutsFront, ReadsPart, RefusesMessage};
+ghost use Rattle.amqp_messaging.specs.Parts.{IsAround, IsBare};
+ghost use Rattle.amqp_messaging.specs.declared.message.kind.SectionKind.{SectionKind};
+
+use crate::annotations::{ApplicationProperties, DeliveryAnnotations, MessageAnnotations};
+use crate::header::Header;
+use crate::message::error::MessageError;
+use crate::message::parts::{cut, reason};
+use crate::message::read::read_part;
+use crate::message::write::{put_bytes, put_front};
+use crate::properties::Properties;
+use serde_amqp::derive::{Deserialize, Serialize};
+use std::alloc::Global;
+
+/// A message as a node between sender and receiver needs it: it reads the properties, changes the
+/// header and the annotations, and passes on the bare message, which borrows the bytes that the
+/// message was read from (AMQP 1.0 part 3, section 3.2).
+///
+/// The properties are also in the bare message: a change of them here is not written.
+#[derive(Debug, PartialEq, Drop)]
+pub struct LazyMessage<'a> {
+    /// How the message is delivered.
+    pub header: Option<Header>,
+    /// Annotations for the next node.
+    pub delivery_annotations: Option<DeliveryAnnotations>,
+    /// Annotations for all nodes.
+    pub message_annotations: Option<MessageAnnotations>,
+    /// The properties that the sender set.
+    pub properties: Option<Properties>,
+    /// Properties of the application.
+    pub application_properties: Option<ApplicationProperties>,
+    /// The bare message: the encoded properties, application properties and body.
+    pub bare: &'a [u8],
+    /// The encoded sections of the body, the end of the bare message.
+    pub body: &'a [u8],
+    /// The encoded footer, or no bytes.
+    pub footer: &'a [u8],
+}
+
+impl<'a> LazyMessage<'a> {
+    /// Reads a message from its encoded sections. The body and the footer are not decoded.
+    ///
+    /// # Errors
+    /// Returns `Malformed`, `UnknownSection`, `OutOfOrder`, `Repeated`, `MixedBody` or `NoBody` if the
+    /// bytes are not the sections of a message, and the error of `from_slice` for the first section
+    /// that cannot be read.
+    ///
+    /// # Memory
+    /// Allocates the header, the annotations and the properties from `alloc`. The body is not copied.
+    pub fn from_slice(alloc: Global, bytes: &'a [u8]) -> Result<LazyMessage<'a>, MessageError>
+        ensures around { IfOk result (λ m. (header delivery message : List ℕ)
+            × IsAround header delivery message m.bare.now m.footer.now bytes.now
+            × ReadsPart ⟦<Header as Deserialize>⟧.reads header m.header
+            × ReadsPart ⟦<DeliveryAnnotations as Deserialize>⟧.reads delivery m.delivery_annotations
+            × ReadsPart ⟦<MessageAnnotations as Deserialize>⟧.reads message m.message_annotations) }
+        ensures bare { IfOk result (λ m. (kind : SectionKind) × (properties application : List ℕ)
+            × IsBare kind properties application m.body.now m.bare.now
+            × ReadsPart ⟦<Properties as Deserialize>⟧.reads properties m.properties
+            × ReadsPart ⟦<ApplicationProperties as Deserialize>⟧.reads application m.application_properties) }
+        ensures refused { IfErr result (RefusesMessage bytes.now) }
+    {
+        let Some(parts) = cut(bytes) else {
+            return Err(reason(bytes));
+        };
+        let header = read_part(alloc, parts.header)?;
+        let delivery_annotations = read_part(alloc, parts.delivery_annotations)?;
+        let message_annotations = read_part(alloc, parts.message_annotations)?;
+        let properties = read_part(alloc, parts.bare.properties)?;
+        let application_properties = read_part(alloc, parts.bare.application_properties)?;
+        Ok(LazyMessage {
+            header,
+            delivery_annotations,
+            message_annotations,
+            properties,
+            application_properties,
+            bare: parts.bare.bytes,
+            body: parts.bare.body,
+            footer: parts.footer,
+        })
+    }
+
+    /// Returns the encoded message: the header and the annotations, the bare message as it was read,
+    /// and the footer.
+    ///
+    /// # Errors
+    /// Returns the errors of `to_vec` for a section.
+    ///
+    /// # Memory
+    /// Allocates the bytes from `alloc`, and what `to_vec` allocates for the header and annotations.
+    pub fn to_vec(&self, alloc: Global) -> Result<Vec<u8>, MessageError>
+        ensures { IfOk result (λ v. (front : List ℕ)
+            × PutsFront ⟦<Header as Serialize>⟧.tree ⟦<DeliveryAnnotations as Serialize>⟧.tree
+            ⟦<MessageAnnotations as Serialize>⟧.tree [] front self.now.header
+            self.now.delivery_annotations self.now.message_annotations
+            × (v.items ≡ front ++ self.now.bare.now ++ self.now.footer.now)) }
+    {
+        let mut out = Vec::new(alloc);
+        put_front(
+            alloc,
+            &mut out,
+            &self.header,
+            &self.delivery_annotations,
+            &self.message_annotations,
+        )?;
+        put_bytes(&mut out, self.bare)?;
+        put_bytes(&mut out, self.footer)?;
+        Ok(out)
+    }
+}

@@ -1,0 +1,128 @@
+//! Messages whose sections are all read.
+
+ghost use Rattle.std.specs.Prelude.{◌≡◌, ◌++◌, [], List, ℕ, IfOk, IfErr};
+ghost use Rattle.amqp_messaging.specs.Messages.{PutsBare, PutsFront, PutsSection, ReadsBody, ReadsPart, RefusesMessage};
+ghost use Rattle.amqp_messaging.specs.Parts.{IsAround, IsBare};
+ghost use Rattle.amqp_messaging.specs.declared.message.kind.SectionKind.{SectionKind};
+
+use crate::annotations::{ApplicationProperties, DeliveryAnnotations, Footer, MessageAnnotations};
+use crate::bodies::{AmqpSequence, AmqpValue, Data};
+use crate::header::Header;
+use crate::message::content::Body;
+use crate::message::error::MessageError;
+use crate::message::parts::{cut, reason};
+use crate::message::read::{read_body, read_part};
+use crate::message::write::{put, put_bare, put_front};
+use crate::properties::Properties;
+use serde_amqp::derive::{Deserialize, Serialize};
+use std::alloc::Global;
+
+/// A message (AMQP 1.0 part 3, section 3.2).
+///
+/// # Encoding
+/// The encoding of each section, in the order of the fields.
+///
+/// # Example
+/// A message with a header without fields and the value null is `0053704500537740`.
+#[derive(Debug, PartialEq, Drop)]
+pub struct Message {
+    /// How the message is delivered.
+    pub header: Option<Header>,
+    /// Annotations for the next node.
+    pub delivery_annotations: Option<DeliveryAnnotations>,
+    /// Annotations for all nodes.
+    pub message_annotations: Option<MessageAnnotations>,
+    /// The properties that the sender sets.
+    pub properties: Option<Properties>,
+    /// Properties of the application.
+    pub application_properties: Option<ApplicationProperties>,
+    /// The body.
+    pub body: Body,
+    /// Annotations after the body.
+    pub footer: Option<Footer>,
+}
+
+impl Message {
+    /// Reads a message from its encoded sections.
+    ///
+    /// # Errors
+    /// Returns `Malformed`, `UnknownSection`, `OutOfOrder`, `Repeated`, `MixedBody` or `NoBody` if the
+    /// bytes are not the sections of a message, and the error of `from_slice` for the first section
+    /// that cannot be read.
+    ///
+    /// # Memory
+    /// Allocates the message from `alloc`, as `from_slice` does for each section.
+    ///
+    /// # Example
+    /// `0053704500537740` is a message with a header and the value null.
+    pub fn from_slice(alloc: Global, bytes: &[u8]) -> Result<Message, MessageError>
+        ensures read { IfOk result (λ m. (kind : SectionKind)
+            × (header delivery message properties application body bare footer : List ℕ)
+            × IsAround header delivery message bare footer bytes.now
+            × IsBare kind properties application body bare
+            × ReadsPart ⟦<Header as Deserialize>⟧.reads header m.header
+            × ReadsPart ⟦<DeliveryAnnotations as Deserialize>⟧.reads delivery m.delivery_annotations
+            × ReadsPart ⟦<MessageAnnotations as Deserialize>⟧.reads message m.message_annotations
+            × ReadsPart ⟦<Properties as Deserialize>⟧.reads properties m.properties
+            × ReadsPart ⟦<ApplicationProperties as Deserialize>⟧.reads application m.application_properties
+            × ReadsBody ⟦<Data as Deserialize>⟧.reads ⟦<AmqpSequence as Deserialize>⟧.reads
+            ⟦<AmqpValue as Deserialize>⟧.reads body m.body
+            × ReadsPart ⟦<Footer as Deserialize>⟧.reads footer m.footer) }
+        ensures refused { IfErr result (RefusesMessage bytes.now) }
+    {
+        let Some(parts) = cut(bytes) else {
+            return Err(reason(bytes));
+        };
+        let header = read_part(alloc, parts.header)?;
+        let delivery_annotations = read_part(alloc, parts.delivery_annotations)?;
+        let message_annotations = read_part(alloc, parts.message_annotations)?;
+        let properties = read_part(alloc, parts.bare.properties)?;
+        let application_properties = read_part(alloc, parts.bare.application_properties)?;
+        let body = read_body(alloc, parts.bare.kind, parts.bare.body)?;
+        let footer = read_part(alloc, parts.footer)?;
+        Ok(Message {
+            header,
+            delivery_annotations,
+            message_annotations,
+            properties,
+            application_properties,
+            body,
+            footer,
+        })
+    }
+
+    /// Returns the encoded message.
+    ///
+    /// # Errors
+    /// Returns the errors of `to_vec` for a section.
+    ///
+    /// # Memory
+    /// Allocates the bytes from `alloc`, and what `to_vec` allocates for each section.
+    pub fn to_vec(&self, alloc: Global) -> Result<Vec<u8>, MessageError>
+        ensures { IfOk result (λ all. (front bare : List ℕ)
+            × PutsFront ⟦<Header as Serialize>⟧.tree ⟦<DeliveryAnnotations as Serialize>⟧.tree
+            ⟦<MessageAnnotations as Serialize>⟧.tree [] front self.now.header
+            self.now.delivery_annotations self.now.message_annotations
+            × PutsBare ⟦<Properties as Serialize>⟧.tree ⟦<ApplicationProperties as Serialize>⟧.tree
+            ⟦<Body as Serialize>⟧.tree front bare self.now.properties self.now.application_properties
+            self.now.body × PutsSection ⟦<Footer as Serialize>⟧.tree bare all.items self.now.footer) }
+    {
+        let mut out = Vec::new(alloc);
+        put_front(
+            alloc,
+            &mut out,
+            &self.header,
+            &self.delivery_annotations,
+            &self.message_annotations,
+        )?;
+        put_bare(
+            alloc,
+            &mut out,
+            &self.properties,
+            &self.application_properties,
+            &self.body,
+        )?;
+        put(alloc, &mut out, &self.footer)?;
+        Ok(out)
+    }
+}

@@ -1,0 +1,61 @@
+"""The page of all types, crates/amqp_messaging/README.md."""
+
+from types_table import PARTS
+
+PAGE = """# AMQP's own types of messages
+
+The crate [amqp_messaging](src/lib.rt) has these types, which `tools/types` writes from [types_table.txt](../../tools/types_table.txt). Each is written and read, after the code of its descriptor or after its name. `!` marks a mandatory field, `[]` one with several values, an `Option<Multiple<T>>`, and `=` the default, which the method `FIELD_or_default` returns for `None`. `Unknown` keeps a value with another descriptor.
+
+[`Message`](src/message/whole.rt) is read from and written as its sections, [`LazyMessage`](src/message/lazy.rt) without decoding the body; `message::sections` splits the bytes. The frames that carry messages are in [amqp_transport](../amqp_transport/src/lib.rt).
+
+## Promises
+
+| Promise | Function (clause, relation) |
+|---|---|
+| The bytes are the parts of a message, and each is read as its section. | `Message::from_slice` (`read`, `IsAround`, `IsBare`, `ReadsPart`, `ReadsBody`) |
+| Otherwise the first section that is malformed, unknown or misplaced determines the error, or that a body or a section is not read. | the same, `LazyMessage::from_slice` (`refused`, `RefusesMessage`) |
+| The sections are written one after another. | `Message::to_vec` (`ensures`, `PutsSection`) |
+| The bare message is written with the bytes that were read. | `LazyMessage::from_slice` (`around`, `bare`), `LazyMessage::to_vec` (`ensures`) |
+| Returns the next section, if it can follow the one before. | `EncodedSections::next_section` (`some`, `none`, `refused`, `kept`) |
+| Each type is read back from what is written. | `RoundTrip::law` (`ensures`) |
+
+That bytes with the parts of a message are read is only tested, by `tool_types`.
+"""
+
+
+def page(table):
+    slow = ", ".join(f"`{t.rust}`" for t in table.types.values() if t.kind in ("list", "section", "described") and not t.one_pass)
+    out = PAGE + "\n`from_slice` reads them in [one pass](../../docs/TYPES.md#from-bytes-in-one-pass)" + (f", but {slow}, and what contains one of them" if slow else "") + ".\n"
+    for part, name in PARTS.items():
+        types = sorted((t for t in table.types.values() if t.part == part), key=by_section)
+        if not types:
+            continue
+        out += f"\n## Part {part}: {name}\n"
+        described = [t for t in types if t.code]
+        if described:
+            out += "\n|Type|Code|Section|Fields|\n|---|---|---|---|\n"
+        for t in described:
+            out += f"|`{t.rust}`|{t.code}|{t.section}|{fields(table, t)}|\n"
+        others = [t for t in types if not t.code]
+        if others:
+            out += "\n|Type|Section|Values|\n|---|---|---|\n"
+            for t in others:
+                out += f"|`{t.rust}`|{t.section}|{values(table, t)}|\n"
+    return out
+
+
+def by_section(t):
+    return [int(number) for number in t.section.split(".")]
+
+
+def fields(table, t):
+    if t.kind == "section":
+        return f"`{table.rust(t.source)}`"
+    said = [f.name + ":" + f.type + "[]" * f.multiple + "!" * f.mandatory + (f"={f.default}" if f.default else "") for f in t.fields]
+    return f"`{', '.join(said)}`" if said else "none"
+
+
+def values(table, t):
+    if t.kind == "choice":
+        return f"{t.source} `{', '.join(f.type if t.source == 'symbol' else f'{f.name}={f.type}' for f in t.fields)}`"
+    return "one of " + ", ".join(f"`{table.rust(f.type)}`" for f in t.fields) + (", or `Unknown`" if t.others else "")
