@@ -6,7 +6,7 @@
 ghost use Rattle.std.specs.Prelude.{◌≡◌};
 ghost use Rattle.serde_amqp.specs.Error.TheVariants.{OutOfMemory};
 ghost use Rattle.serde_amqp.specs.TreeOf.{tree_of};
-ghost use Rattle.serde_amqp.specs.Value.TheVariants as value;
+ghost use Rattle.amqp_value.specs.declared.value.Value.TheVariants as value;
 ghost use Rattle.serde_amqp.specs.Answers.{Answers, Restores};
 
 use serde_amqp::{Error, Value, from_value};

@@ -106,6 +106,7 @@ impl Serialize for Part<'_> {
     }
 }
 
+#[tactic(auto, unfolding(amqp_ser::specs::Compounds::tree_of_parts))]
 impl Serialize for Parts<'_> {
     ghost tree = { λ _. list_of (Some (scalar null) ∷ list_of (Some (scalar null) ∷ [])
         ∷ Some (scalar null) ∷ []) };
