@@ -71,10 +71,10 @@ pub fn taken(alloc: Global, arguments: &str) -> Result<String, Error> {
 /// Returns how many proper prefixes the bytes have, and how many of them are an incomplete frame.
 pub fn incomplete(alloc: Global, arguments: &str) -> Result<String, Error> {
     let (limit, bytes) = limited(alloc, arguments)?;
-    let mut count = 0u64;
+    let mut count: u64 = 0;
     for end in 0..bytes.len() {
         if matches!(frame_of(&bytes[..end], limit), Err(FrameError::Incomplete)) {
-            count += 1;
+            count = count.saturating_add(1);
         }
     }
     let len = bytes.len();

@@ -42,10 +42,10 @@ fn after_its_name(alloc: Global, bytes: &[u8]) -> Result<Vec<u8>, Error> {
 }
 
 fn prefixes_read(alloc: Global, kind: &str, bytes: &[u8]) -> usize {
-    let mut count = 0;
+    let mut count: usize = 0;
     for end in 0..bytes.len() {
         if written_again(alloc, kind, &bytes[..end]).is_ok() {
-            count += 1;
+            count = count.saturating_add(1);
         }
     }
     count
