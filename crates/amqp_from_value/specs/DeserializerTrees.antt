@@ -7,7 +7,7 @@ use Rattle.amqp_from_value.specs.declared.deserializer.Deserializer.{Deserialize
 use Rattle.amqp_from_value.specs.declared.deserializer.Elements.{Elements}
 use Rattle.amqp_from_value.specs.declared.deserializer.Entries.{Entries}
 
-abbrev pub value_tree : {E : Type 0} → Deserializer E → Tree
+abbrev pub value_tree : Deserializer → Tree
 value_tree d = tree_of d.value
 
 abbrev pub elements_left : Elements → List Tree

@@ -1,4 +1,3 @@
 -- Contracts of public items depend on both of these.
 pub mod DeserializerTrees
 pub mod Access
-pub mod Refusals

@@ -1,33 +1,29 @@
 //! The deserializer of a `Value`.
 
-ghost use Rattle.std.specs.Prelude.{◌≡◌, IfErr, map};
+ghost use Rattle.std.specs.Prelude.{◌≡◌, map};
 ghost use Rattle.amqp_data.specs.declared.error.Error.TheVariants.{OutOfMemory};
 ghost use Rattle.amqp_data.specs.Pairs.{entries_of};
 ghost use Rattle.amqp_value.specs.TreeOf.{tree_of};
 ghost use Rattle.amqp_value.specs.ValueKind.{kind_of};
 ghost use Rattle.amqp_de.specs.Answers.{Answers, Restores};
-ghost use Rattle.amqp_de.specs.Errors.{IsOfReading};
 
 use crate::key_of_name::find;
-use crate::refusal::Refusal;
 use amqp_data::{Error, OrderedMap};
-use amqp_de::de::{self, Content, Deserialize, DeserializeError, FixedContent};
+use amqp_de::de::{self, Content, Deserialize, FixedContent};
 use amqp_value::{Value, ValueKind, is_short_key};
 use std::alloc::Global;
 use std::collections::VecDeque;
-use std::marker::PhantomData;
 use std::vec::IntoIter;
 
 // The number of entries from which on an index of their keys costs less than comparing each key with
 // each one before it.
 const MANY: usize = 24;
 
-/// A deserializer of a `Value`, whose errors are of the type `E`.
+/// A deserializer of a `Value`.
 #[derive(Drop)]
-pub struct Deserializer<E = Error> {
+pub struct Deserializer {
     alloc: Global,
     value: Value,
-    error: PhantomData<E>,
 }
 
 /// The remaining elements of a list or an array.
@@ -54,23 +50,7 @@ impl Deserializer {
     pub fn new(alloc: Global, value: Value) -> Deserializer
         ensures { value_tree result ≡ tree_of value }
     {
-        Deserializer::over(alloc, value)
-    }
-}
-
-impl<E> Deserializer<E> {
-    ghost use Rattle.amqp_from_value.specs.DeserializerTrees.{value_tree};
-
-    // Returns a deserializer of the value.
-    #[inline(always)]
-    fn over(alloc: Global, value: Value) -> Deserializer<E>
-        ensures { value_tree result ≡ tree_of value }
-    {
-        Deserializer {
-            alloc,
-            value,
-            error: PhantomData,
-        }
+        Deserializer { alloc, value }
     }
 
     // Returns the type of the value.
@@ -115,10 +95,10 @@ impl Entries {
     }
 }
 
-impl<E: DeserializeError> de::Deserializer for Deserializer<E> {
+impl de::Deserializer for Deserializer {
     ghost use Rattle.amqp_from_value.specs.DeserializerTrees.{value_tree, elements_left, unread_entries};
 
-    type Error = E;
+    type Error = Error;
 
     type Elements = Elements;
 
@@ -147,14 +127,17 @@ impl<E: DeserializeError> de::Deserializer for Deserializer<E> {
         matches!(&self.value, Value::Array(_))
     }
 
-    fn open(self) -> Content<Deserializer<E>, Elements, Entries> {
-        let Deserializer { alloc, value, .. } = self;
+    fn open(self) -> Content<Deserializer, Elements, Entries> {
+        let Deserializer { alloc, value } = self;
         match value {
             Value::Described(described) => {
                 let described = Box::into_inner(described);
                 Content::Described(
                     described.descriptor,
-                    Deserializer::over(alloc, described.value),
+                    Deserializer {
+                        alloc,
+                        value: described.value,
+                    },
                 )
             }
             Value::Null => Content::Null,
@@ -199,28 +182,40 @@ impl<E: DeserializeError> de::Deserializer for Deserializer<E> {
     }
 
     #[inline(always)]
-    fn next_element(elements: &mut Elements) -> Option<Deserializer<E>> {
+    fn next_element(elements: &mut Elements) -> Option<Deserializer> {
         match elements.values.next() {
-            Some(value) => Some(Deserializer::over(elements.alloc, value)),
+            Some(value) => Some(Deserializer {
+                alloc: elements.alloc,
+                value,
+            }),
             None => None,
         }
     }
 
     #[inline(always)]
-    fn next_pair(entries: &mut Entries) -> Option<(Deserializer<E>, Deserializer<E>)> {
+    fn next_pair(entries: &mut Entries) -> Option<(Deserializer, Deserializer)> {
         match entries.pairs.pop_front() {
             Some((key, value)) => Some((
-                Deserializer::over(entries.alloc, key),
-                Deserializer::over(entries.alloc, value),
+                Deserializer {
+                    alloc: entries.alloc,
+                    value: key,
+                },
+                Deserializer {
+                    alloc: entries.alloc,
+                    value,
+                },
             )),
             None => None,
         }
     }
 
-    fn take_named(entries: &mut Entries, name: &str) -> Option<Deserializer<E>> {
+    fn take_named(entries: &mut Entries, name: &str) -> Option<Deserializer> {
         match find(&entries.pairs, name) {
             Some(at) => match entries.pairs.remove(at) {
-                Some((_, value)) => Some(Deserializer::over(entries.alloc, value)),
+                Some((_, value)) => Some(Deserializer {
+                    alloc: entries.alloc,
+                    value,
+                }),
                 None => None,
             },
             None => None,
@@ -268,7 +263,7 @@ impl<E: DeserializeError> de::Deserializer for Deserializer<E> {
 
     #[inline(always)]
     fn into_list(self) -> Option<Elements> {
-        let Deserializer { alloc, value, .. } = self;
+        let Deserializer { alloc, value } = self;
         match value {
             Value::List(values) => Some(Elements {
                 alloc,
@@ -297,8 +292,8 @@ impl<E: DeserializeError> de::Deserializer for Deserializer<E> {
 ///
 /// # Errors
 /// Returns `Error::OutOfMemory` if an allocation fails. Otherwise returns an error if and only if
-/// the value cannot be read as a `T`; the implementation of `T` determines which of `InvalidValue`,
-/// `TooLong` and `Message`. The value is dropped.
+/// the value cannot be read as a `T`; the implementation of `T` determines which. The value is
+/// dropped.
 ///
 /// # Memory
 /// Allocates from `alloc` what the implementation of `T` allocates.
@@ -309,10 +304,6 @@ pub fn from_value<T: Deserialize>(alloc: Global, value: Value) -> Result<T, Erro
     ensures read { Answers (λ e. e ≡ OutOfMemory) (T.reads (tree_of value)) result }
     ensures law { Restores T.image T.restorable T.same
         (λ e. e ≡ OutOfMemory) (tree_of value) result }
-    ensures kind { IfErr result IsOfReading }
 {
-    match T::deserialize(alloc, Deserializer::<Refusal>::over(alloc, value)) {
-        Ok(read) => Ok(read),
-        Err(refusal) => Err(refusal.into_error()),
-    }
+    T::deserialize(alloc, Deserializer::new(alloc, value))
 }

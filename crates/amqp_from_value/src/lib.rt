@@ -9,7 +9,6 @@ mod deserializer;
 mod key_of_name;
 mod located;
 mod read_error;
-mod refusal;
 
 pub use access::{MapAccess, SeqAccess, VariantAccess};
 pub use deserializer::{Deserializer, Elements, Entries, from_value};
