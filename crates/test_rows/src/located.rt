@@ -57,14 +57,23 @@ fn place_of<T: Deserialize>(alloc: Global, bytes: &[u8]) -> Result<String, Error
     if by_value != by_slice {
         return Err(Error::Message("another place by from_slice_located"));
     }
-    match (
-        from_value::<T>(alloc, decode_value(alloc, bytes)?),
-        by_value,
-    ) {
-        (Ok(_), None) => Ok(String::from_str(alloc, "read")?),
-        (Err(Error::OutOfMemory), _) => Err(Error::OutOfMemory),
-        (Err(wanted), Some(error)) if wanted == error.error => shown(alloc, &error),
+    let plain = match from_value::<T>(alloc, decode_value(alloc, bytes)?) {
+        Ok(_) => None,
+        Err(Error::OutOfMemory) => return Err(Error::OutOfMemory),
+        Err(error) => Some(error),
+    };
+    match (plain, by_value) {
+        (None, None) => Ok(String::from_str(alloc, "read")?),
+        (Some(wanted), Some(error)) => same_error(alloc, &wanted, &error),
         _ => Err(Error::Message("another error by from_value")),
+    }
+}
+
+fn same_error(alloc: Global, wanted: &Error, error: &ReadError) -> Result<String, Error> {
+    if *wanted == error.error {
+        shown(alloc, error)
+    } else {
+        Err(Error::Message("another error by from_value"))
     }
 }
 
