@@ -9,6 +9,7 @@
 mod annotations;
 mod bodies;
 mod conditions;
+mod endpoint_conditions;
 mod error;
 mod header;
 mod identifiers;
@@ -20,9 +21,8 @@ mod unknown;
 
 pub use annotations::{ApplicationProperties, DeliveryAnnotations, Footer, MessageAnnotations};
 pub use bodies::{AmqpSequence, AmqpValue, Data};
-pub use conditions::{
-    AmqpCondition, ConnectionCondition, LinkCondition, SessionCondition, TransactionCondition,
-};
+pub use conditions::{AmqpCondition, ConnectionCondition};
+pub use endpoint_conditions::{LinkCondition, SessionCondition, TransactionCondition};
 pub use error::AmqpError;
 pub use header::Header;
 pub use identifiers::{Address, AnnotationKey, MessageId};
