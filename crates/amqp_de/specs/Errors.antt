@@ -21,14 +21,6 @@ IsError invalid_value e = e ≡ error.InvalidValue
 IsError too_long e = e ≡ error.TooLong
 IsError (message s) e = IsMessage s e
 
--- The errors that have a kind: all but those of a reader and of malformed bytes.
-abbrev pub IsOfReading : Error → Type 0
-IsOfReading error.OutOfMemory = Unit {0}
-IsOfReading error.InvalidValue = Unit {0}
-IsOfReading error.TooLong = Unit {0}
-IsOfReading (error.Message words) = Unit {0}
-IsOfReading e = ⊥
-
 -- The kind of the error that a deserializer returns for an error of encoding.
 abbrev pub kind_of_unwritable : Error → ErrorKind
 kind_of_unwritable error.OutOfMemory = out_of_memory
