@@ -1,6 +1,8 @@
 //! Encodings that are read as a type and written again, and encodings that are refused
 //! (AMQP 1.0 part 1, section 1.6).
 
+mod goods;
+mod lists;
 mod parcels;
 mod stalls;
 
