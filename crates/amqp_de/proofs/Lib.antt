@@ -18,6 +18,7 @@ pub mod NotArray
 pub mod MultipleReadings
 pub mod DefaultedReadings
 pub mod CompositeReadings
+pub mod EnumReadings
 pub mod DescriptorReadings
 pub mod ReadingLaws
 pub mod ErrorLemmas
