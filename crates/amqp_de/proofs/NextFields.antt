@@ -1,0 +1,30 @@
+-- An optional field that is read from the next encoded value, if there is one.
+use Rattle.std.proofs.Common.{◌≡◌, ◌-◌, ℕ, Bool, List, ◌∷◌, Option, subst, inl, inr}
+use Rattle.amqp_ser.specs.Tree.{Tree}
+use Rattle.amqp_decode.specs.Parsed.{FrameReader}
+use Rattle.amqp_de.specs.Encoded.{Reading, FieldsFill}
+use Rattle.amqp_de.specs.Fields.{FieldSource, ReadsOptional}
+use Rattle.amqp_de.specs.NextField.{ReadsNext}
+use Rattle.amqp_de.specs.Parts.{◌▸◌}
+use Rattle.amqp_de.specs.Present.{optional}
+use Rattle.amqp_de.specs.Reads.{ReadsOption, image_option, RestorableOption, SameOption}
+use Rattle.amqp_de.specs.declared.fields.FieldValues.{FieldValues}
+use Rattle.amqp_de.proofs.FieldLemmas.{optional_fill, optional_none}
+
+module _ {V W : Type 0} (n : List ℕ) (R : Tree → V → Type 0) (image : V → Tree) (P : V → Type 0) (S : V → V → Type 0)
+    (Q : W → FieldSource → Type 0) (images : W → List (Bool × Tree)) (PW : W → Type 0) (SW : W → W → Type 0)
+    (f : FrameReader) (count : ℕ) (body : List ℕ) where
+  abbrev Rest : ℕ → List ℕ → W → Type 0
+  Rest m s w = FieldsFill Q images PW SW f m s w
+
+  abbrev Filled : Option V → W → Type 0
+  Filled x w = FieldsFill {V = FieldValues (Option V) W} (λ y. ReadsOptional n R y.value (Q y.rest)) (λ y. optional image y.value ∷ images y.rest) (λ y. RestorableOption image P y.value × PW y.rest)
+      (λ y z. SameOption S y.value z.value × SW y.rest z.rest) f count body (x ▸ w)
+
+  pub optional_next : (left : ℕ) (rest : List ℕ) (x : Option V) (w : W)
+      → ReadsNext (Reading (ReadsOption R) (image_option image) (RestorableOption image P) (SameOption S)) f count body left rest x
+      → Rest left rest w → Filled x w
+  optional_next left rest x w (inl (none, end, same, absent)) fill =
+      rw absent (optional_none n R image P S Q images PW SW f count body w none (subst (λ m. Rest m body w) end (subst (λ s. Rest left s w) same fill)))
+  optional_next left rest x w (inr (some, less, (t, found, read))) fill =
+      optional_fill n R image P S Q images PW SW f count body rest t x w some found read (subst (λ m. Rest m rest w) less fill)
