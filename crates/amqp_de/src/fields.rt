@@ -1,6 +1,6 @@
 //! The fields of a struct that are read in one call.
 
-ghost use Rattle.std.specs.Prelude.{◌≡◌, ℕ, List, [], ◌∷◌, Bool, true, MatchResult, IfOk, IfSome, Some, suc};
+ghost use Rattle.std.specs.Prelude.{◌≡◌, ℕ, List, [], ◌∷◌, Bool, true, MatchResult, IfOk, IfSome, None, Some, suc};
 ghost use Rattle.amqp_decode.specs.Parsed.{parse};
 ghost use Rattle.amqp_de.specs.Encoded.{FieldsFill, Reading};
 ghost use Rattle.amqp_de.specs.NextField.{ReadsNext};
@@ -175,7 +175,7 @@ fn read_next<V: Deserialize>(
     depth: u16,
 ) -> Result<Option<V>, GaveUp>
     ensures { IfOk result (λ x. ReadsNext (Reading (ReadsOption V.reads) (image_option V.image)
-        (RestorableOption V.image V.restorable) (SameOption V.same)) (parse (suc depth))
+        (RestorableOption V.image V.restorable) (SameOption V.same)) None (parse (suc depth))
         count.old input.old.now count.new input.new.now x) }
 {
     if *count == 0 {
