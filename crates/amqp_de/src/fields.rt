@@ -165,8 +165,9 @@ fn split_name<'a>(name: &str, count: u32, body: &'a [u8]) -> Option<&'a [u8]>
 }
 
 // Reads the first of `count` encoded values as an optional field, and takes it off `count`. Without a
-// value the field is absent. A caller that reads the other fields in one place, whether this one is
-// there or not, is of a size that grows with the number of fields, and not with its power of two.
+// value the field is absent. So `read_fields` has one call for the other fields, whether this one is
+// there or not, and the code of a struct grows with its fields. The compiler drops `inline(always)`
+// from a function that grows very large.
 #[inline(always)]
 fn read_next<V: Deserialize>(
     alloc: Global,
