@@ -11,6 +11,7 @@ pub mod MapReadings
 pub mod Chunks
 pub mod FieldLemmas
 pub mod NamedFillings
+mod NextFields
 pub mod OtherCodes
 pub mod MultipleRefused
 pub mod LazyRefused
