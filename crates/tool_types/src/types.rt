@@ -1,8 +1,8 @@
 //! Rows of values by the name of their type.
 
 use crate::kinds::written_again;
-use crate::standard::name_with;
 use crate::words::{bytes_of, first_word, word_of};
+use amqp_types::names;
 use serde_amqp::Error;
 use std::alloc::Global;
 
@@ -30,13 +30,15 @@ fn after_its_name(alloc: Global, bytes: &[u8]) -> Result<Vec<u8>, Error> {
     let [0x00, 0x53, code, rest @ ..] = bytes else {
         return Err(Error::Message("no code"));
     };
-    let name = name_with(*code)?;
-    let Ok(len) = u8::try_from(name.len()) else {
+    let Some(names) = names::of_code(u64::from(*code)) else {
+        return Err(Error::Message("no such code"));
+    };
+    let Ok(len) = u8::try_from(names.symbol.len()) else {
         return Err(Error::TooLong);
     };
     let mut named = Vec::new(alloc);
     named.extend_from_slice(&[0x00, 0xa3, len])?;
-    named.extend_from_slice(name.as_bytes())?;
+    named.extend_from_slice(names.symbol.as_bytes())?;
     named.extend_from_slice(rest)?;
     Ok(named)
 }
