@@ -47,7 +47,13 @@ pub enum AnyTarget {
 }
 
 // amqp: the impls below are written by tools/derive from the annotations above
-use serde_amqp::derive::{Alternatives, Composite, Content, Deserialize, DeserializeError, DeserializeSeed, Deserializer, Either, FieldSeeds, FieldValues, FromParts, GaveUp, Global, ListOf, ListSeed, Name, Never, Optional, Record, RoundTrip, RoundTripAlternatives, RoundTripComposite, Serialize, SerializeCompounds, Serializer, build, fields, laws, named, read_alternatives, read_composite_type};
+use serde_amqp::derive::{
+    Alternatives, Composite, Content, Deserialize, DeserializeError, DeserializeSeed, Deserializer,
+    Either, FieldSeeds, FieldValues, FromParts, GaveUp, Global, ListOf, ListSeed, Name, Never,
+    Optional, Record, RoundTrip, RoundTripAlternatives, RoundTripComposite, Serialize,
+    SerializeCompounds, Serializer, build, fields, laws, named, read_alternatives,
+    read_composite_type,
+};
 
 impl Serialize for Coordinator {
     ghost use Rattle.std.specs.Prelude.{[], ◌∷◌};
@@ -58,9 +64,12 @@ impl Serialize for Coordinator {
         ∷ []) };
 
     fn serialize<S: Serializer>(&self, serializer: &mut S) -> Result<S::Ok, S::Error> {
-        serializer.serialize_described(&0x30u64, &ListOf(fields! {
+        serializer.serialize_described(
+            &0x30u64,
+            &ListOf(fields! {
                 "capabilities"?: &self.capabilities,
-            }))
+            }),
+        )
     }
 }
 
@@ -77,7 +86,10 @@ impl Record for Coordinator {
 
 impl FromParts for Coordinator {
     fn from_parts(parts: <CoordinatorFields as FieldSeeds>::Values) -> Coordinator {
-        let FieldValues { value: capabilities, rest: () } = parts;
+        let FieldValues {
+            value: capabilities,
+            rest: (),
+        } = parts;
         Coordinator { capabilities }
     }
 }
@@ -125,7 +137,10 @@ impl Deserialize for Coordinator {
 
     ghost same = { ⟦<Coordinator as Composite>⟧.same };
 
-    fn deserialize<D: Deserializer>(alloc: Global, deserializer: D) -> Result<Coordinator, D::Error> {
+    fn deserialize<D: Deserializer>(
+        alloc: Global,
+        deserializer: D,
+    ) -> Result<Coordinator, D::Error> {
         read_composite_type::<Coordinator, D>(alloc, deserializer)
     }
 }
@@ -186,7 +201,10 @@ impl Deserialize for TxnCapability {
 
     ghost same = { λ x y. x ≡ y };
 
-    fn deserialize<D: Deserializer>(_alloc: Global, deserializer: D) -> Result<TxnCapability, D::Error> {
+    fn deserialize<D: Deserializer>(
+        _alloc: Global,
+        deserializer: D,
+    ) -> Result<TxnCapability, D::Error> {
         match deserializer.open() {
             Content::Symbol(text) => {
                 let text = text.as_inner().as_str();
@@ -211,8 +229,15 @@ impl Deserialize for TxnCapability {
         }
     }
 
-    fn read_encoded(alloc: Global, code: u8, input: &mut &[u8], depth: u16) -> Result<TxnCapability, GaveUp> {
-        let text = <serde_amqp::primitives::Symbol as Deserialize>::read_encoded(alloc, code, input, depth)?;
+    fn read_encoded(
+        alloc: Global,
+        code: u8,
+        input: &mut &[u8],
+        depth: u16,
+    ) -> Result<TxnCapability, GaveUp> {
+        let text = <serde_amqp::primitives::Symbol as Deserialize>::read_encoded(
+            alloc, code, input, depth,
+        )?;
         let text = text.as_inner().as_str();
         if text == "amqp:local-transactions" {
             return Ok(TxnCapability::LocalTransactions);

@@ -51,7 +51,12 @@ pub enum LifetimePolicy {
 }
 
 // amqp: the impls below are written by tools/derive from the annotations above
-use serde_amqp::derive::{Alternatives, Composite, Deserialize, DeserializeSeed, Deserializer, Either, FieldSeeds, Global, ListOf, ListSeed, Never, Record, RoundTrip, RoundTripAlternatives, RoundTripComposite, Serialize, SerializeCompounds, Serializer, fields, laws, read_alternatives, read_composite_type, read_no_fields};
+use serde_amqp::derive::{
+    Alternatives, Composite, Deserialize, DeserializeSeed, Deserializer, Either, FieldSeeds,
+    Global, ListOf, ListSeed, Never, Record, RoundTrip, RoundTripAlternatives, RoundTripComposite,
+    Serialize, SerializeCompounds, Serializer, fields, laws, read_alternatives,
+    read_composite_type, read_no_fields,
+};
 
 impl Serialize for DeleteOnClose {
     ghost use Rattle.std.specs.Prelude.{[]};
@@ -97,7 +102,10 @@ impl Composite for DeleteOnClose {
         "amqp:delete-on-close:list"
     }
 
-    fn read_body<D: Deserializer>(_alloc: Global, deserializer: D) -> Result<DeleteOnClose, D::Error> {
+    fn read_body<D: Deserializer>(
+        _alloc: Global,
+        deserializer: D,
+    ) -> Result<DeleteOnClose, D::Error> {
         let () = read_no_fields::<D>(deserializer)?;
         Ok(DeleteOnClose)
     }
@@ -115,7 +123,10 @@ impl Deserialize for DeleteOnClose {
 
     ghost same = { ⟦<DeleteOnClose as Composite>⟧.same };
 
-    fn deserialize<D: Deserializer>(alloc: Global, deserializer: D) -> Result<DeleteOnClose, D::Error> {
+    fn deserialize<D: Deserializer>(
+        alloc: Global,
+        deserializer: D,
+    ) -> Result<DeleteOnClose, D::Error> {
         read_composite_type::<DeleteOnClose, D>(alloc, deserializer)
     }
 }
@@ -177,7 +188,10 @@ impl Composite for DeleteOnNoLinks {
         "amqp:delete-on-no-links:list"
     }
 
-    fn read_body<D: Deserializer>(_alloc: Global, deserializer: D) -> Result<DeleteOnNoLinks, D::Error> {
+    fn read_body<D: Deserializer>(
+        _alloc: Global,
+        deserializer: D,
+    ) -> Result<DeleteOnNoLinks, D::Error> {
         let () = read_no_fields::<D>(deserializer)?;
         Ok(DeleteOnNoLinks)
     }
@@ -195,7 +209,10 @@ impl Deserialize for DeleteOnNoLinks {
 
     ghost same = { ⟦<DeleteOnNoLinks as Composite>⟧.same };
 
-    fn deserialize<D: Deserializer>(alloc: Global, deserializer: D) -> Result<DeleteOnNoLinks, D::Error> {
+    fn deserialize<D: Deserializer>(
+        alloc: Global,
+        deserializer: D,
+    ) -> Result<DeleteOnNoLinks, D::Error> {
         read_composite_type::<DeleteOnNoLinks, D>(alloc, deserializer)
     }
 }
@@ -257,7 +274,10 @@ impl Composite for DeleteOnNoMessages {
         "amqp:delete-on-no-messages:list"
     }
 
-    fn read_body<D: Deserializer>(_alloc: Global, deserializer: D) -> Result<DeleteOnNoMessages, D::Error> {
+    fn read_body<D: Deserializer>(
+        _alloc: Global,
+        deserializer: D,
+    ) -> Result<DeleteOnNoMessages, D::Error> {
         let () = read_no_fields::<D>(deserializer)?;
         Ok(DeleteOnNoMessages)
     }
@@ -275,7 +295,10 @@ impl Deserialize for DeleteOnNoMessages {
 
     ghost same = { ⟦<DeleteOnNoMessages as Composite>⟧.same };
 
-    fn deserialize<D: Deserializer>(alloc: Global, deserializer: D) -> Result<DeleteOnNoMessages, D::Error> {
+    fn deserialize<D: Deserializer>(
+        alloc: Global,
+        deserializer: D,
+    ) -> Result<DeleteOnNoMessages, D::Error> {
         read_composite_type::<DeleteOnNoMessages, D>(alloc, deserializer)
     }
 }
@@ -337,7 +360,10 @@ impl Composite for DeleteOnNoLinksOrMessages {
         "amqp:delete-on-no-links-or-messages:list"
     }
 
-    fn read_body<D: Deserializer>(_alloc: Global, deserializer: D) -> Result<DeleteOnNoLinksOrMessages, D::Error> {
+    fn read_body<D: Deserializer>(
+        _alloc: Global,
+        deserializer: D,
+    ) -> Result<DeleteOnNoLinksOrMessages, D::Error> {
         let () = read_no_fields::<D>(deserializer)?;
         Ok(DeleteOnNoLinksOrMessages)
     }
@@ -355,7 +381,10 @@ impl Deserialize for DeleteOnNoLinksOrMessages {
 
     ghost same = { ⟦<DeleteOnNoLinksOrMessages as Composite>⟧.same };
 
-    fn deserialize<D: Deserializer>(alloc: Global, deserializer: D) -> Result<DeleteOnNoLinksOrMessages, D::Error> {
+    fn deserialize<D: Deserializer>(
+        alloc: Global,
+        deserializer: D,
+    ) -> Result<DeleteOnNoLinksOrMessages, D::Error> {
         read_composite_type::<DeleteOnNoLinksOrMessages, D>(alloc, deserializer)
     }
 }
@@ -377,7 +406,13 @@ impl Record for LifetimePolicy {
     ghost use Rattle.serde_amqp.specs.Derive.{This, Other};
     ghost use Rattle.amqp_links.specs.declared.lifetime.LifetimePolicy.TheVariants as variant;
 
-    type Values = Either<DeleteOnClose, Either<DeleteOnNoLinks, Either<DeleteOnNoMessages, Either<DeleteOnNoLinksOrMessages, Never>>>>;
+    type Values = Either<
+        DeleteOnClose,
+        Either<
+            DeleteOnNoLinks,
+            Either<DeleteOnNoMessages, Either<DeleteOnNoLinksOrMessages, Never>>,
+        >,
+    >;
 
     ghost parts = { λ x. elim x as (λ _. _) [ variant.DeleteOnClose v ↦ This v | variant.DeleteOnNoLinks v ↦ Other (This v) | variant.DeleteOnNoMessages v ↦ Other (Other (This v)) | variant.DeleteOnNoLinksOrMessages v ↦ Other (Other (Other (This v))) ] };
 }
@@ -406,12 +441,19 @@ impl Deserialize for LifetimePolicy {
 
     ghost same = { λ x y. ⟦<Either<DeleteOnClose, Either<DeleteOnNoLinks, Either<DeleteOnNoMessages, Either<DeleteOnNoLinksOrMessages, Never>>>> as Alternatives>⟧.same (⟦<LifetimePolicy as Record>⟧.parts x) (⟦<LifetimePolicy as Record>⟧.parts y) };
 
-    fn deserialize<D: Deserializer>(alloc: Global, deserializer: D) -> Result<LifetimePolicy, D::Error> {
+    fn deserialize<D: Deserializer>(
+        alloc: Global,
+        deserializer: D,
+    ) -> Result<LifetimePolicy, D::Error> {
         match read_alternatives::<LifetimePolicy, D>(alloc, deserializer)? {
             Either::This(value) => Ok(LifetimePolicy::DeleteOnClose(value)),
             Either::Other(Either::This(value)) => Ok(LifetimePolicy::DeleteOnNoLinks(value)),
-            Either::Other(Either::Other(Either::This(value))) => Ok(LifetimePolicy::DeleteOnNoMessages(value)),
-            Either::Other(Either::Other(Either::Other(Either::This(value)))) => Ok(LifetimePolicy::DeleteOnNoLinksOrMessages(value)),
+            Either::Other(Either::Other(Either::This(value))) => Ok(
+                LifetimePolicy::DeleteOnNoMessages(value),
+            ),
+            Either::Other(Either::Other(Either::Other(Either::This(value)))) => Ok(
+                LifetimePolicy::DeleteOnNoLinksOrMessages(value),
+            ),
             Either::Other(Either::Other(Either::Other(Either::Other(never)))) => match never {},
         }
     }

@@ -1,8 +1,8 @@
 //! Where the messages of a link come from.
 
-use amqp_messaging::Address;
-use crate::states::Outcome;
 use crate::terminus::{DistributionMode, TerminusDurability, TerminusExpiryPolicy};
+use amqp_delivery::Outcome;
+use amqp_messaging::Address;
 use serde_amqp::Value;
 use serde_amqp::primitives::{Multiple, OrderedMap, Symbol};
 

@@ -1,7 +1,7 @@
 //! Where the messages of a link go to.
 
-use amqp_messaging::Address;
 use crate::terminus::{TerminusDurability, TerminusExpiryPolicy};
+use amqp_messaging::Address;
 use serde_amqp::Value;
 use serde_amqp::primitives::{Multiple, OrderedMap, Symbol};
 

@@ -46,7 +46,10 @@ pub enum DistributionMode {
 }
 
 // amqp: the impls below are written by tools/derive from the annotations above
-use serde_amqp::derive::{Content, Deserialize, DeserializeError, Deserializer, FixedContent, GaveUp, Global, Name, RoundTrip, Serialize, Serializer};
+use serde_amqp::derive::{
+    Content, Deserialize, DeserializeError, Deserializer, FixedContent, GaveUp, Global, Name,
+    RoundTrip, Serialize, Serializer,
+};
 
 impl Serialize for TerminusDurability {
     ghost use Rattle.std.specs.Prelude.{Some, ℕ};
@@ -77,7 +80,10 @@ impl Deserialize for TerminusDurability {
 
     ghost same = { λ x y. x ≡ y };
 
-    fn deserialize<D: Deserializer>(_alloc: Global, deserializer: D) -> Result<TerminusDurability, D::Error> {
+    fn deserialize<D: Deserializer>(
+        _alloc: Global,
+        deserializer: D,
+    ) -> Result<TerminusDurability, D::Error> {
         match deserializer.into_fixed() {
             FixedContent::Uint(0) => Ok(TerminusDurability::None),
             FixedContent::Uint(1) => Ok(TerminusDurability::Configuration),
@@ -86,7 +92,12 @@ impl Deserialize for TerminusDurability {
         }
     }
 
-    fn read_encoded(alloc: Global, code: u8, input: &mut &[u8], depth: u16) -> Result<TerminusDurability, GaveUp> {
+    fn read_encoded(
+        alloc: Global,
+        code: u8,
+        input: &mut &[u8],
+        depth: u16,
+    ) -> Result<TerminusDurability, GaveUp> {
         match <u32 as Deserialize>::read_encoded(alloc, code, input, depth) {
             Ok(0) => Ok(TerminusDurability::None),
             Ok(1) => Ok(TerminusDurability::Configuration),
@@ -142,7 +153,10 @@ impl Deserialize for TerminusExpiryPolicy {
 
     ghost same = { λ x y. x ≡ y };
 
-    fn deserialize<D: Deserializer>(_alloc: Global, deserializer: D) -> Result<TerminusExpiryPolicy, D::Error> {
+    fn deserialize<D: Deserializer>(
+        _alloc: Global,
+        deserializer: D,
+    ) -> Result<TerminusExpiryPolicy, D::Error> {
         match deserializer.open() {
             Content::Symbol(text) => {
                 let text = text.as_inner().as_str();
@@ -164,8 +178,15 @@ impl Deserialize for TerminusExpiryPolicy {
         }
     }
 
-    fn read_encoded(alloc: Global, code: u8, input: &mut &[u8], depth: u16) -> Result<TerminusExpiryPolicy, GaveUp> {
-        let text = <serde_amqp::primitives::Symbol as Deserialize>::read_encoded(alloc, code, input, depth)?;
+    fn read_encoded(
+        alloc: Global,
+        code: u8,
+        input: &mut &[u8],
+        depth: u16,
+    ) -> Result<TerminusExpiryPolicy, GaveUp> {
+        let text = <serde_amqp::primitives::Symbol as Deserialize>::read_encoded(
+            alloc, code, input, depth,
+        )?;
         let text = text.as_inner().as_str();
         if text == "link-detach" {
             return Ok(TerminusExpiryPolicy::LinkDetach);
@@ -227,7 +248,10 @@ impl Deserialize for DistributionMode {
 
     ghost same = { λ x y. x ≡ y };
 
-    fn deserialize<D: Deserializer>(_alloc: Global, deserializer: D) -> Result<DistributionMode, D::Error> {
+    fn deserialize<D: Deserializer>(
+        _alloc: Global,
+        deserializer: D,
+    ) -> Result<DistributionMode, D::Error> {
         match deserializer.open() {
             Content::Symbol(text) => {
                 let text = text.as_inner().as_str();
@@ -243,8 +267,15 @@ impl Deserialize for DistributionMode {
         }
     }
 
-    fn read_encoded(alloc: Global, code: u8, input: &mut &[u8], depth: u16) -> Result<DistributionMode, GaveUp> {
-        let text = <serde_amqp::primitives::Symbol as Deserialize>::read_encoded(alloc, code, input, depth)?;
+    fn read_encoded(
+        alloc: Global,
+        code: u8,
+        input: &mut &[u8],
+        depth: u16,
+    ) -> Result<DistributionMode, GaveUp> {
+        let text = <serde_amqp::primitives::Symbol as Deserialize>::read_encoded(
+            alloc, code, input, depth,
+        )?;
         let text = text.as_inner().as_str();
         if text == "move" {
             return Ok(DistributionMode::Move);

@@ -1,7 +1,8 @@
 //! The frame that attaches a link.
 
-use amqp_links::{AnyTarget, DeliveryState, Source};
-use amqp_messaging::{ReceiverSettleMode, Role, SenderSettleMode};
+use crate::modes::{ReceiverSettleMode, Role, SenderSettleMode};
+use amqp_delivery::DeliveryState;
+use amqp_links::{AnyTarget, Source};
 use serde_amqp::Value;
 use serde_amqp::primitives::{ByteBuf, Multiple, OrderedMap, Symbol};
 
@@ -46,8 +47,8 @@ pub struct Attach {
 impl Attach {
     ghost use Rattle.std.specs.Prelude.{◌≡◌};
     ghost use Rattle.serde_amqp.specs.Derive.{value_or};
-    ghost use Rattle.amqp_messaging.specs.declared.modes.SenderSettleMode.TheVariants as sender_settle_mode;
-    ghost use Rattle.amqp_messaging.specs.declared.modes.ReceiverSettleMode.TheVariants as receiver_settle_mode;
+    ghost use Rattle.amqp_performatives.specs.declared.modes.SenderSettleMode.TheVariants as sender_settle_mode;
+    ghost use Rattle.amqp_performatives.specs.declared.modes.ReceiverSettleMode.TheVariants as receiver_settle_mode;
 
     /// Returns `snd_settle_mode`, or `SenderSettleMode::Mixed` if it is absent.
     pub fn snd_settle_mode_or_default(&self) -> SenderSettleMode

@@ -1,6 +1,5 @@
-//! Messages to a coordinator, and states of deliveries in a transaction.
+//! Messages to a coordinator, and its answer.
 
-use crate::states::Outcome;
 use serde_amqp::Value;
 use serde_amqp::primitives::ByteBuf;
 
@@ -37,19 +36,6 @@ pub struct Discharge {
 pub struct Declared {
     /// The transaction.
     pub txn_id: ByteBuf,
-}
-
-/// The state of a delivery in a transaction (AMQP 1.0 part 4, section 4.5.6).
-///
-/// # Encoding
-/// A list of the fields, described by the code 0x34.
-// amqp: encoding = "list", code = 0x34, name = "amqp:transactional-state:list", rename_all = "kebab-case", no_one_pass
-#[derive(Debug, PartialEq, Drop)]
-pub struct TransactionalState {
-    /// The transaction.
-    pub txn_id: ByteBuf,
-    /// The outcome, if the transaction succeeds.
-    pub outcome: Option<Outcome>,
 }
 
 // amqp: the impls below are written by tools/derive from the annotations above
@@ -363,123 +349,6 @@ impl RoundTripComposite for Declared {
 impl RoundTrip for Declared {
     fn law() {
         <Declared as RoundTripComposite>::composite_law();
-    }
-}
-
-impl Serialize for TransactionalState {
-    ghost use Rattle.std.specs.Prelude.{[], ◌∷◌};
-    ghost use Rattle.serde_amqp.specs.Derive.{code, short_composite, required_value, optional_value, of_binary};
-
-    ghost tree = { λ x. short_composite (code 0x34) (
-        required_value (of_binary x.txn_id)
-        ∷ optional_value ⟦<Outcome as Serialize>⟧.tree x.outcome
-        ∷ []) };
-
-    fn serialize<S: Serializer>(&self, serializer: &mut S) -> Result<S::Ok, S::Error> {
-        serializer.serialize_described(
-            &0x34u64,
-            &ListOf(fields! {
-                "txn-id": &self.txn_id,
-                "outcome"?: &self.outcome,
-            }),
-        )
-    }
-}
-
-/// The fields of [`TransactionalState`], as they are read.
-type TransactionalStateFields = Required<ByteBuf, Optional<Outcome, ()>>;
-
-impl Record for TransactionalState {
-    ghost use Rattle.serde_amqp.specs.Derive.{◌▸◌};
-
-    type Values = <TransactionalStateFields as FieldSeeds>::Values;
-
-    ghost parts = { λ x. x.txn_id ▸ x.outcome ▸ tt };
-}
-
-impl FromParts for TransactionalState {
-    fn from_parts(parts: <TransactionalStateFields as FieldSeeds>::Values) -> TransactionalState {
-        let FieldValues {
-            value: txn_id,
-            rest,
-        } = parts;
-        let FieldValues {
-            value: outcome,
-            rest: (),
-        } = rest;
-        TransactionalState { txn_id, outcome }
-    }
-}
-
-impl Composite for TransactionalState {
-    ghost use Rattle.std.specs.Prelude.{codes};
-    ghost use Rattle.serde_amqp.specs.Derive.{OnFields, ReadsRequired, ReadsOptional, NoMoreFields};
-
-    ghost descriptor_code = { 0x34 };
-
-    ghost descriptor_name = { codes "amqp:transactional-state:list" };
-
-    ghost reads = { λ t x. OnFields (
-        ReadsRequired (codes "txn-id") ⟦<ByteBuf as Deserialize>⟧.reads x.txn_id (
-        ReadsOptional (codes "outcome") ⟦<Outcome as Deserialize>⟧.reads x.outcome
-        NoMoreFields)) t };
-
-    ghost image = { λ x. ⟦<ListSeed<TransactionalStateFields> as DeserializeSeed>⟧.short (⟦<TransactionalState as Record>⟧.parts x) };
-
-    ghost restorable = { λ x. ⟦<ListSeed<TransactionalStateFields> as DeserializeSeed>⟧.restorable (⟦<TransactionalState as Record>⟧.parts x) };
-
-    ghost same = { λ x y. ⟦<ListSeed<TransactionalStateFields> as DeserializeSeed>⟧.same (⟦<TransactionalState as Record>⟧.parts x) (⟦<TransactionalState as Record>⟧.parts y) };
-
-    fn code() -> u64 {
-        0x34
-    }
-
-    fn name() -> &'static str {
-        "amqp:transactional-state:list"
-    }
-
-    fn read_body<D: Deserializer>(
-        alloc: Global,
-        deserializer: D,
-    ) -> Result<TransactionalState, D::Error> {
-        build::<TransactionalState, D, _>(
-            alloc,
-            deserializer,
-            ListSeed(named! { "txn-id", "outcome"? }),
-        )
-    }
-}
-
-impl Deserialize for TransactionalState {
-    ghost use Rattle.std.specs.Prelude.{codes};
-    ghost use Rattle.serde_amqp.specs.Derive.{code, described, OnComposite};
-
-    ghost reads = { λ t x. OnComposite 0x34 (codes "amqp:transactional-state:list") (λ u. ⟦<TransactionalState as Composite>⟧.reads u x) t };
-
-    ghost image = { λ x. described (code 0x34) (⟦<TransactionalState as Composite>⟧.image x) };
-
-    ghost restorable = { ⟦<TransactionalState as Composite>⟧.restorable };
-
-    ghost same = { ⟦<TransactionalState as Composite>⟧.same };
-
-    fn deserialize<D: Deserializer>(
-        alloc: Global,
-        deserializer: D,
-    ) -> Result<TransactionalState, D::Error> {
-        read_composite_type::<TransactionalState, D>(alloc, deserializer)
-    }
-}
-
-impl RoundTripComposite for TransactionalState {
-    fn composite_law() {
-        laws::short_fields_return::<TransactionalState, TransactionalStateFields>();
-        laws::described_return();
-    }
-}
-
-impl RoundTrip for TransactionalState {
-    fn law() {
-        <TransactionalState as RoundTripComposite>::composite_law();
     }
 }
 // amqp: end of the impls

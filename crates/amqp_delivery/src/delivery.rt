@@ -1,6 +1,6 @@
 //! The states that a delivery can reach.
 
-use amqp_messaging::AmqpError;
+use crate::error::AmqpError;
 use serde_amqp::Value;
 use serde_amqp::primitives::{OrderedMap, Symbol};
 
