@@ -6,7 +6,7 @@ PAGE = """# AMQP's own types
 
 The crate [amqp_types](src/lib.rt) has these types, most from the crates below it, which `tools/types` writes from [types_table.txt](../../tools/types_table.txt). Each is written and read, after the code of its descriptor or after its name. `!` marks a mandatory field, `[]` one with several values, an `Option<Multiple<T>>`, and `=` the default, which the method `FIELD_or_default` returns for `None`. `Unknown` keeps a value with another descriptor. The check proves of each type that it is read back from what is written (`RoundTrip::law`).
 
-[`Message`](../amqp_messaging/README.md) is read from and written as its sections, `LazyMessage` without decoding the body. [amqp_transport](../amqp_transport/src/lib.rt) has the frames that carry messages, and protocol headers; `names` has the names of types and fields by code.
+[`Message`](../amqp_messaging/README.md) is read from and written as its sections, `LazyMessage` without decoding the body. [amqp_transport](../amqp_transport/src/lib.rt) has the frames that carry messages, and protocol headers.
 """
 
 

@@ -4,13 +4,11 @@
 //! Each type is written and read, after the code of its descriptor or after its name.
 //! `tools/types_table.txt` lists them as the standard does, with their fields; `tools/types` writes
 //! the types, and `tools/derive` their impls. This crate has SASL and the kinds of errors, and
-//! re-exports the other types. [`names`] has the names of the standard for programs that show what
-//! is in encoded values.
+//! re-exports the other types.
 #![tactic(auto)]
 
 mod conditions;
 mod endpoint_conditions;
-pub mod names;
 mod sasl;
 mod sasl_frame;
 mod sasl_outcome;

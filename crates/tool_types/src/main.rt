@@ -7,10 +7,8 @@
 //! | Row | Result |
 //! |---|---|
 //! | `type TYPE BYTES` | the bytes by which the value of this type is written |
-//! | `described TYPE BYTES` | these bytes; those by which it is written if the name of the descriptor is in place of its code; how many proper prefixes of the bytes are read |
+//! | `described TYPE NAME BYTES` | these bytes; those by which it is written if the name of the descriptor is in place of its code; how many proper prefixes of the bytes are read |
 //! | `default TYPE BYTES` | what the value's methods `_or_default` return, in the order of the fields |
-//! | `names CODE` | the names of the type with this code: the type's, the descriptor's and the fields' |
-//! | `code NAME` | the code of the descriptor with this name |
 //! | `section BYTES`, `performative BYTES`, `sasl BYTES`, `state BYTES` | the bytes by which the value is written, and its `Debug` text |
 //! | `message BYTES` | the bytes by which the message is written, and the lazy message; the `Debug` text |
 //! | `lazy BYTES` | the bare message, the body and the footer of the lazy message |

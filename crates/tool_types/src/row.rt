@@ -16,8 +16,6 @@ pub fn answer(alloc: Global, line: &str) -> Result<String, Error> {
         "type" => types::written(alloc, arguments),
         "described" => types::described(alloc, arguments),
         "default" => standard::default_of(alloc, arguments),
-        "names" => standard::names_of(alloc, arguments),
-        "code" => standard::code_of(alloc, arguments),
         "frame" => frames::written(alloc, arguments),
         "frame_within" => limits::written(alloc, arguments),
         "split" => limits::split(alloc, arguments),

@@ -1,35 +1,11 @@
-//! Rows of names and defaults of the standard.
+//! Rows of defaults of the standard.
 
 use crate::words::{bytes_of, first_word};
 use amqp_types::{
-    Attach, Begin, Detach, Disposition, Flow, Header, Open, Source, Target, Transfer, names,
+    Attach, Begin, Detach, Disposition, Flow, Header, Open, Source, Target, Transfer,
 };
 use serde_amqp::{Error, from_slice};
 use std::alloc::Global;
-
-/// Returns the names of the type with a code: of the type, of the descriptor and of the fields.
-pub fn names_of(alloc: Global, code: &str) -> Result<String, Error> {
-    let Ok(code) = u64::from_str_radix(code, 16) else {
-        return Err(Error::Message("no number"));
-    };
-    let Some(names) = names::of_code(code) else {
-        return Ok(String::from_str(alloc, "none")?);
-    };
-    let mut text = format!(in alloc; "{} {}", names.name, names.symbol)?;
-    for field in names.fields {
-        text.push_str(" ")?;
-        text.push_str(field)?;
-    }
-    Ok(text)
-}
-
-/// Returns the code of the descriptor with a name.
-pub fn code_of(alloc: Global, name: &str) -> Result<String, Error> {
-    match names::code_of(name) {
-        Some(code) => Ok(format!(in alloc; "{code:x}")?),
-        None => Ok(String::from_str(alloc, "none")?),
-    }
-}
 
 /// Returns the fields with a default, which is returned if they are absent.
 pub fn default_of(alloc: Global, arguments: &str) -> Result<String, Error> {
