@@ -59,7 +59,7 @@ use serde_amqp::derive::{
 
 impl SessionCondition {
     ghost use Rattle.std.specs.Prelude.{◌≡◌, List, ℕ, codes};
-    ghost use Rattle.amqp_messaging.specs.declared.endpoint_conditions.SessionCondition.TheVariants as variant;
+    ghost use Rattle.amqp_types.specs.declared.endpoint_conditions.SessionCondition.TheVariants as variant;
 
     /// Returns the text of the value.
     pub fn as_str(&self) -> &'static str
@@ -77,7 +77,7 @@ impl SessionCondition {
 impl Serialize for SessionCondition {
     ghost use Rattle.std.specs.Prelude.{Some, List, ℕ, codes};
     ghost use Rattle.serde_amqp.specs.Derive.{scalar, symbol};
-    ghost use Rattle.amqp_messaging.specs.declared.endpoint_conditions.SessionCondition.TheVariants as variant;
+    ghost use Rattle.amqp_types.specs.declared.endpoint_conditions.SessionCondition.TheVariants as variant;
 
     ghost tree = { λ x. Some (scalar (symbol (elim x as (λ _. List ℕ) [ variant.WindowViolation ↦ codes "amqp:session:window-violation" | variant.ErrantLink ↦ codes "amqp:session:errant-link" | variant.HandleInUse ↦ codes "amqp:session:handle-in-use" | variant.UnattachedHandle ↦ codes "amqp:session:unattached-handle" ]))) };
 
@@ -89,7 +89,7 @@ impl Serialize for SessionCondition {
 impl Deserialize for SessionCondition {
     ghost use Rattle.std.specs.Prelude.{◌≡◌, List, ℕ, codes};
     ghost use Rattle.serde_amqp.specs.Derive.{scalar, symbol, Always};
-    ghost use Rattle.amqp_messaging.specs.declared.endpoint_conditions.SessionCondition.TheVariants as variant;
+    ghost use Rattle.amqp_types.specs.declared.endpoint_conditions.SessionCondition.TheVariants as variant;
 
     ghost reads = { λ t x. t ≡ scalar (symbol (elim x as (λ _. List ℕ) [ variant.WindowViolation ↦ codes "amqp:session:window-violation" | variant.ErrantLink ↦ codes "amqp:session:errant-link" | variant.HandleInUse ↦ codes "amqp:session:handle-in-use" | variant.UnattachedHandle ↦ codes "amqp:session:unattached-handle" ])) };
 
@@ -156,7 +156,7 @@ impl RoundTrip for SessionCondition {
 
 impl LinkCondition {
     ghost use Rattle.std.specs.Prelude.{◌≡◌, List, ℕ, codes};
-    ghost use Rattle.amqp_messaging.specs.declared.endpoint_conditions.LinkCondition.TheVariants as variant;
+    ghost use Rattle.amqp_types.specs.declared.endpoint_conditions.LinkCondition.TheVariants as variant;
 
     /// Returns the text of the value.
     pub fn as_str(&self) -> &'static str
@@ -175,7 +175,7 @@ impl LinkCondition {
 impl Serialize for LinkCondition {
     ghost use Rattle.std.specs.Prelude.{Some, List, ℕ, codes};
     ghost use Rattle.serde_amqp.specs.Derive.{scalar, symbol};
-    ghost use Rattle.amqp_messaging.specs.declared.endpoint_conditions.LinkCondition.TheVariants as variant;
+    ghost use Rattle.amqp_types.specs.declared.endpoint_conditions.LinkCondition.TheVariants as variant;
 
     ghost tree = { λ x. Some (scalar (symbol (elim x as (λ _. List ℕ) [ variant.DetachForced ↦ codes "amqp:link:detach-forced" | variant.TransferLimitExceeded ↦ codes "amqp:link:transfer-limit-exceeded" | variant.MessageSizeExceeded ↦ codes "amqp:link:message-size-exceeded" | variant.Redirect ↦ codes "amqp:link:redirect" | variant.Stolen ↦ codes "amqp:link:stolen" ]))) };
 
@@ -187,7 +187,7 @@ impl Serialize for LinkCondition {
 impl Deserialize for LinkCondition {
     ghost use Rattle.std.specs.Prelude.{◌≡◌, List, ℕ, codes};
     ghost use Rattle.serde_amqp.specs.Derive.{scalar, symbol, Always};
-    ghost use Rattle.amqp_messaging.specs.declared.endpoint_conditions.LinkCondition.TheVariants as variant;
+    ghost use Rattle.amqp_types.specs.declared.endpoint_conditions.LinkCondition.TheVariants as variant;
 
     ghost reads = { λ t x. t ≡ scalar (symbol (elim x as (λ _. List ℕ) [ variant.DetachForced ↦ codes "amqp:link:detach-forced" | variant.TransferLimitExceeded ↦ codes "amqp:link:transfer-limit-exceeded" | variant.MessageSizeExceeded ↦ codes "amqp:link:message-size-exceeded" | variant.Redirect ↦ codes "amqp:link:redirect" | variant.Stolen ↦ codes "amqp:link:stolen" ])) };
 
@@ -260,7 +260,7 @@ impl RoundTrip for LinkCondition {
 
 impl TransactionCondition {
     ghost use Rattle.std.specs.Prelude.{◌≡◌, List, ℕ, codes};
-    ghost use Rattle.amqp_messaging.specs.declared.endpoint_conditions.TransactionCondition.TheVariants as variant;
+    ghost use Rattle.amqp_types.specs.declared.endpoint_conditions.TransactionCondition.TheVariants as variant;
 
     /// Returns the text of the value.
     pub fn as_str(&self) -> &'static str
@@ -277,7 +277,7 @@ impl TransactionCondition {
 impl Serialize for TransactionCondition {
     ghost use Rattle.std.specs.Prelude.{Some, List, ℕ, codes};
     ghost use Rattle.serde_amqp.specs.Derive.{scalar, symbol};
-    ghost use Rattle.amqp_messaging.specs.declared.endpoint_conditions.TransactionCondition.TheVariants as variant;
+    ghost use Rattle.amqp_types.specs.declared.endpoint_conditions.TransactionCondition.TheVariants as variant;
 
     ghost tree = { λ x. Some (scalar (symbol (elim x as (λ _. List ℕ) [ variant.UnknownId ↦ codes "amqp:transaction:unknown-id" | variant.TransactionRollback ↦ codes "amqp:transaction:rollback" | variant.TransactionTimeout ↦ codes "amqp:transaction:timeout" ]))) };
 
@@ -289,7 +289,7 @@ impl Serialize for TransactionCondition {
 impl Deserialize for TransactionCondition {
     ghost use Rattle.std.specs.Prelude.{◌≡◌, List, ℕ, codes};
     ghost use Rattle.serde_amqp.specs.Derive.{scalar, symbol, Always};
-    ghost use Rattle.amqp_messaging.specs.declared.endpoint_conditions.TransactionCondition.TheVariants as variant;
+    ghost use Rattle.amqp_types.specs.declared.endpoint_conditions.TransactionCondition.TheVariants as variant;
 
     ghost reads = { λ t x. t ≡ scalar (symbol (elim x as (λ _. List ℕ) [ variant.UnknownId ↦ codes "amqp:transaction:unknown-id" | variant.TransactionRollback ↦ codes "amqp:transaction:rollback" | variant.TransactionTimeout ↦ codes "amqp:transaction:timeout" ])) };
 

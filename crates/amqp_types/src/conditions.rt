@@ -59,8 +59,8 @@ use serde_amqp::derive::{
 impl AmqpCondition {
     ghost use Rattle.std.specs.Prelude.{◌≡◌, List, ℕ, codes};
     ghost use Rattle.std.specs.Prelude.{IfSome, IfNone};
-    ghost use Rattle.amqp_messaging.specs.declared.conditions.AmqpCondition.{AmqpCondition};
-    ghost use Rattle.amqp_messaging.specs.declared.conditions.AmqpCondition.TheVariants as variant;
+    ghost use Rattle.amqp_types.specs.declared.conditions.AmqpCondition.{AmqpCondition};
+    ghost use Rattle.amqp_types.specs.declared.conditions.AmqpCondition.TheVariants as variant;
 
     /// Returns the text of the value.
     pub fn as_str(&self) -> &'static str
@@ -134,7 +134,7 @@ impl AmqpCondition {
 impl Serialize for AmqpCondition {
     ghost use Rattle.std.specs.Prelude.{Some, List, ℕ, codes};
     ghost use Rattle.serde_amqp.specs.Derive.{scalar, symbol};
-    ghost use Rattle.amqp_messaging.specs.declared.conditions.AmqpCondition.TheVariants as variant;
+    ghost use Rattle.amqp_types.specs.declared.conditions.AmqpCondition.TheVariants as variant;
 
     ghost tree = { λ x. Some (scalar (symbol (elim x as (λ _. List ℕ) [ variant.InternalError ↦ codes "amqp:internal-error" | variant.NotFound ↦ codes "amqp:not-found" | variant.UnauthorizedAccess ↦ codes "amqp:unauthorized-access" | variant.DecodeError ↦ codes "amqp:decode-error" | variant.ResourceLimitExceeded ↦ codes "amqp:resource-limit-exceeded" | variant.NotAllowed ↦ codes "amqp:not-allowed" | variant.InvalidField ↦ codes "amqp:invalid-field" | variant.NotImplemented ↦ codes "amqp:not-implemented" | variant.ResourceLocked ↦ codes "amqp:resource-locked" | variant.PreconditionFailed ↦ codes "amqp:precondition-failed" | variant.ResourceDeleted ↦ codes "amqp:resource-deleted" | variant.IllegalState ↦ codes "amqp:illegal-state" | variant.FrameSizeTooSmall ↦ codes "amqp:frame-size-too-small" ]))) };
 
@@ -146,7 +146,7 @@ impl Serialize for AmqpCondition {
 impl Deserialize for AmqpCondition {
     ghost use Rattle.std.specs.Prelude.{◌≡◌, List, ℕ, codes};
     ghost use Rattle.serde_amqp.specs.Derive.{scalar, symbol, Always};
-    ghost use Rattle.amqp_messaging.specs.declared.conditions.AmqpCondition.TheVariants as variant;
+    ghost use Rattle.amqp_types.specs.declared.conditions.AmqpCondition.TheVariants as variant;
 
     ghost reads = { λ t x. t ≡ scalar (symbol (elim x as (λ _. List ℕ) [ variant.InternalError ↦ codes "amqp:internal-error" | variant.NotFound ↦ codes "amqp:not-found" | variant.UnauthorizedAccess ↦ codes "amqp:unauthorized-access" | variant.DecodeError ↦ codes "amqp:decode-error" | variant.ResourceLimitExceeded ↦ codes "amqp:resource-limit-exceeded" | variant.NotAllowed ↦ codes "amqp:not-allowed" | variant.InvalidField ↦ codes "amqp:invalid-field" | variant.NotImplemented ↦ codes "amqp:not-implemented" | variant.ResourceLocked ↦ codes "amqp:resource-locked" | variant.PreconditionFailed ↦ codes "amqp:precondition-failed" | variant.ResourceDeleted ↦ codes "amqp:resource-deleted" | variant.IllegalState ↦ codes "amqp:illegal-state" | variant.FrameSizeTooSmall ↦ codes "amqp:frame-size-too-small" ])) };
 
@@ -193,7 +193,7 @@ impl RoundTrip for AmqpCondition {
 
 impl ConnectionCondition {
     ghost use Rattle.std.specs.Prelude.{◌≡◌, List, ℕ, codes};
-    ghost use Rattle.amqp_messaging.specs.declared.conditions.ConnectionCondition.TheVariants as variant;
+    ghost use Rattle.amqp_types.specs.declared.conditions.ConnectionCondition.TheVariants as variant;
 
     /// Returns the text of the value.
     pub fn as_str(&self) -> &'static str
@@ -210,7 +210,7 @@ impl ConnectionCondition {
 impl Serialize for ConnectionCondition {
     ghost use Rattle.std.specs.Prelude.{Some, List, ℕ, codes};
     ghost use Rattle.serde_amqp.specs.Derive.{scalar, symbol};
-    ghost use Rattle.amqp_messaging.specs.declared.conditions.ConnectionCondition.TheVariants as variant;
+    ghost use Rattle.amqp_types.specs.declared.conditions.ConnectionCondition.TheVariants as variant;
 
     ghost tree = { λ x. Some (scalar (symbol (elim x as (λ _. List ℕ) [ variant.ConnectionForced ↦ codes "amqp:connection:forced" | variant.FramingError ↦ codes "amqp:connection:framing-error" | variant.Redirect ↦ codes "amqp:connection:redirect" ]))) };
 
@@ -222,7 +222,7 @@ impl Serialize for ConnectionCondition {
 impl Deserialize for ConnectionCondition {
     ghost use Rattle.std.specs.Prelude.{◌≡◌, List, ℕ, codes};
     ghost use Rattle.serde_amqp.specs.Derive.{scalar, symbol, Always};
-    ghost use Rattle.amqp_messaging.specs.declared.conditions.ConnectionCondition.TheVariants as variant;
+    ghost use Rattle.amqp_types.specs.declared.conditions.ConnectionCondition.TheVariants as variant;
 
     ghost reads = { λ t x. t ≡ scalar (symbol (elim x as (λ _. List ℕ) [ variant.ConnectionForced ↦ codes "amqp:connection:forced" | variant.FramingError ↦ codes "amqp:connection:framing-error" | variant.Redirect ↦ codes "amqp:connection:redirect" ])) };
 
