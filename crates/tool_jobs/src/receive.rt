@@ -6,7 +6,6 @@ pub mod typed;
 use crate::long_forms::put_section;
 use crate::places::{LONG_MARKER, MARKER, Marked};
 use crate::sections::{Header, Properties};
-use example_composites::{AnnotationKey, SimpleValue};
 use serde_amqp::decode::decode_value;
 use serde_amqp::lazy::LazyValue;
 use serde_amqp::primitives::OrderedMap;
@@ -15,6 +14,7 @@ use serde_amqp::ser::Serialize;
 use serde_amqp::{Error, Value, from_value, to_vec};
 use std::alloc::Global;
 use std::io::BufReader;
+use tool_shapes::composites::{AnnotationKey, SimpleValue};
 use tool_shapes::messages::Message;
 use tool_shapes::{Digest, Random};
 

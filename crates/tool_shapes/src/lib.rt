@@ -8,6 +8,7 @@ mod attach;
 mod attach_read;
 mod chain;
 mod chain_read;
+pub mod composites;
 mod described_read;
 mod digest;
 mod fed;

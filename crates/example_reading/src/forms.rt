@@ -7,7 +7,7 @@
 ghost use Rattle.std.specs.Prelude.{◌∷◌, [], Some, codes, string_bytes};
 ghost use Rattle.serde_amqp.specs.Tree.{code, name, scalar, symbol};
 ghost use Rattle.serde_amqp.specs.Words.{list_composite, list_of, map_composite, required_value, optional_value, short_list_of, short_symbol_map_of, of_bool, of_string, of_symbol, of_u8, of_u32};
-ghost use Rattle.example_composites.specs.Shapes.{of_shape};
+ghost use Rattle.example_reading.specs.Shapes.{of_shape};
 
 use serde_amqp::primitives::{F64Bits, Symbol, SymbolRef};
 use serde_amqp::ser::{

@@ -1,12 +1,10 @@
 //! Errors and the states of a delivery.
-//!
-//! For readers who need enums that are one of several composites.
 
-ghost use Rattle.example_composites.specs.Outcomes.{of_accepted, of_error, of_modified, of_outcome, of_received, of_rejected, of_released, of_state};
+ghost use Rattle.tool_shapes.specs.Outcomes.{of_accepted, of_error, of_modified, of_outcome, of_received, of_rejected, of_released, of_state};
 
-use crate::values::FieldMap;
-use serde_amqp::primitives::Symbol;
-use serde_amqp::ser::{ListOf, Serialize, SerializeCompounds, Serializer, fields};
+use crate::composites::values::FieldMap;
+use amqp_data::Symbol;
+use amqp_ser::{ListOf, Serialize, SerializeCompounds, Serializer, fields};
 
 /// The details of an error that ends a session, closes a connection, detaches a link or rejects a
 /// message (AMQP 1.0 part 2, section 2.8.14).

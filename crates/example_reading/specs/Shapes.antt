@@ -4,8 +4,8 @@ use Rattle.std.specs.Prelude.{[], ◌∷◌, Option}
 use Rattle.serde_amqp.specs.Carried.{optional}
 use Rattle.serde_amqp.specs.Tree.{Tree}
 use Rattle.serde_amqp.specs.Words.{variant_of, of_bool, of_f64, of_string, of_u32}
-use Rattle.example_composites.specs.declared.forms.Shape.{Shape}
-use Rattle.example_composites.specs.declared.forms.Shape.TheVariants as shape
+use Rattle.example_reading.specs.declared.forms.Shape.{Shape}
+use Rattle.example_reading.specs.declared.forms.Shape.TheVariants as shape
 
 abbrev pub of_shape : Shape → Option Tree
 of_shape (shape.Box x y z width height depth name solid weight) =

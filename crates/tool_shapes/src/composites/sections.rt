@@ -1,17 +1,15 @@
 //! The sections of a message, which are written one after another (AMQP 1.0 part 3, section 3.2).
-//!
-//! For readers who need described lists of optional fields, and descriptors before a map, a binary
-//! or a value of any type.
 
-ghost use Rattle.std.specs.Prelude.{◌∷◌, [], map};
-ghost use Rattle.serde_amqp.specs.Tree.{code};
-ghost use Rattle.serde_amqp.specs.Words.{optional_value, basic_composite, short_composite, list_of, of_binary, of_bool, of_string, of_symbol, of_timestamp, of_u8, of_u32};
-ghost use Rattle.example_composites.specs.Values.{of_address, of_annotations, of_application, of_message_id, of_value};
+ghost use Rattle.std.specs.Prelude.{◌∷◌, []};
+ghost use Rattle.amqp_ser.specs.Tree.{code};
+ghost use Rattle.amqp_ser.specs.Words.{optional_value, basic_composite, short_composite, of_binary, of_bool, of_string, of_symbol, of_timestamp, of_u8, of_u32};
+ghost use Rattle.tool_shapes.specs.Values.{of_address, of_annotations, of_application, of_message_id};
 
-use crate::values::{Address, Annotations, MessageId, Milliseconds, SequenceNumber, SimpleValue};
-use serde_amqp::Value;
-use serde_amqp::primitives::{ByteBuf, OrderedMap, Symbol, Timestamp};
-use serde_amqp::ser::{ListOf, Serialize, SerializeCompounds, Serializer, fields};
+use crate::composites::values::{
+    Address, Annotations, MessageId, Milliseconds, SequenceNumber, SimpleValue,
+};
+use amqp_data::{ByteBuf, OrderedMap, Symbol, Timestamp};
+use amqp_ser::{ListOf, Serialize, SerializeCompounds, Serializer, fields};
 
 /// The header: details of the delivery of a message (AMQP 1.0 part 3, section 3.2.1).
 #[derive(Drop)]
@@ -40,18 +38,6 @@ impl Serialize for Header {
                 "delivery-count"?: &self.delivery_count,
             }),
         )
-    }
-}
-
-/// Annotations from one node for the next (AMQP 1.0 part 3, section 3.2.2).
-#[derive(Drop)]
-pub struct DeliveryAnnotations(pub Annotations);
-
-impl Serialize for DeliveryAnnotations {
-    ghost tree = { λ a. basic_composite (code 0x71) (of_annotations a.0) };
-
-    fn serialize<S: Serializer>(&self, serializer: &mut S) -> Result<S::Ok, S::Error> {
-        serializer.serialize_described(&0x71u64, &self.0)
     }
 }
 
@@ -139,42 +125,5 @@ impl Serialize for Data {
 
     fn serialize<S: Serializer>(&self, serializer: &mut S) -> Result<S::Ok, S::Error> {
         serializer.serialize_described(&0x75u64, &self.0)
-    }
-}
-
-/// A body of several values (AMQP 1.0 part 3, section 3.2.7).
-#[derive(Drop)]
-pub struct AmqpSequence(pub Vec<Value>);
-
-impl Serialize for AmqpSequence {
-    ghost tree = { λ s. basic_composite (code 0x76) (list_of (map of_value s.0.items)) };
-
-    fn serialize<S: Serializer>(&self, serializer: &mut S) -> Result<S::Ok, S::Error> {
-        serializer.serialize_described(&0x76u64, &self.0)
-    }
-}
-
-/// A body of one value (AMQP 1.0 part 3, section 3.2.8).
-#[derive(Drop)]
-pub struct AmqpValue(pub Value);
-
-impl Serialize for AmqpValue {
-    ghost tree = { λ v. basic_composite (code 0x77) (of_value v.0) };
-
-    fn serialize<S: Serializer>(&self, serializer: &mut S) -> Result<S::Ok, S::Error> {
-        serializer.serialize_described(&0x77u64, &self.0)
-    }
-}
-
-/// Annotations that can only be computed once the message is complete, such as a hash (AMQP 1.0
-/// part 3, section 3.2.9).
-#[derive(Drop)]
-pub struct Footer(pub Annotations);
-
-impl Serialize for Footer {
-    ghost tree = { λ f. basic_composite (code 0x78) (of_annotations f.0) };
-
-    fn serialize<S: Serializer>(&self, serializer: &mut S) -> Result<S::Ok, S::Error> {
-        serializer.serialize_described(&0x78u64, &self.0)
     }
 }

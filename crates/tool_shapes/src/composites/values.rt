@@ -1,20 +1,16 @@
 //! Field types that allow one of several AMQP types, maps of values, and aliases for the named
 //! types of the standard.
-//!
-//! For readers who need enums that are serialized as the value of a variant, without an index.
 
-ghost use Rattle.example_composites.specs.Values.{of_address, of_annotation_key, of_message_id, of_multiple, of_simple};
+ghost use Rattle.tool_shapes.specs.Values.{of_address, of_annotation_key, of_message_id, of_simple};
 
-use serde_amqp::Value;
-use serde_amqp::primitives::{
-    Array, ByteBuf, Dec32, Dec64, Dec128, F32Bits, F64Bits, OrderedMap, Symbol, Timestamp, Uuid,
+use amqp_data::{
+    ByteBuf, Dec32, Dec64, Dec128, F32Bits, F64Bits, OrderedMap, Symbol, Timestamp, Uuid,
 };
-use serde_amqp::ser::{Serialize, SerializeScalars, Serializer};
+use amqp_ser::{Serialize, SerializeScalars, Serializer};
+use amqp_value::Value;
 
 /// The number of a link in its session (AMQP 1.0 part 2, section 2.8.4).
 pub type Handle = u32;
-/// A duration in seconds (AMQP 1.0 part 2, section 2.8.5).
-pub type Seconds = u32;
 /// A duration in milliseconds (AMQP 1.0 part 2, section 2.8.6).
 pub type Milliseconds = u32;
 /// The identifier of a delivery on its link (AMQP 1.0 part 2, section 2.8.7). The standard allows
@@ -28,33 +24,10 @@ pub type TransferNumber = SequenceNumber;
 pub type SequenceNumber = u32;
 /// The format and the version of a message (AMQP 1.0 part 2, section 2.8.11).
 pub type MessageFormat = u32;
-/// An IETF language tag (AMQP 1.0 part 2, section 2.8.12).
-pub type LanguageTag = Symbol;
 /// A map from symbols to values, for properties and filters (AMQP 1.0 part 2, section 2.8.13).
 pub type FieldMap = OrderedMap<Symbol, Value>;
 /// A map from symbols or ulongs to values (AMQP 1.0 part 3, section 3.2.10).
 pub type Annotations = OrderedMap<AnnotationKey, Value>;
-
-/// The contents of a field that allows several values: one value, or an array (AMQP 1.0 part 1,
-/// section 1.4).
-#[derive(Drop)]
-pub enum Multiple<T> {
-    /// One value, without an array.
-    One(T),
-    /// An array of values.
-    Many(Array<T>),
-}
-
-impl<T: Serialize> Serialize for Multiple<T> {
-    ghost tree = { of_multiple T.tree };
-
-    fn serialize<S: Serializer>(&self, serializer: &mut S) -> Result<S::Ok, S::Error> {
-        match self {
-            Multiple::One(value) => value.serialize(serializer),
-            Multiple::Many(values) => values.serialize(serializer),
-        }
-    }
-}
 
 /// The address of a node (AMQP 1.0 part 3, section 3.2.15).
 #[derive(Drop)]

@@ -1,21 +1,21 @@
 -- The trees of errors and of the states of a delivery (AMQP 1.0 part 2, section 2.8.14, and part 3,
--- section 3.4), for the contracts of `src/outcomes.rt`.
+-- section 3.4), for the contracts of `src/composites/outcomes.rt`.
 --
 -- An absent field is omitted at the end of the list, and null before a present field.
 use Rattle.std.specs.Prelude.{[], ◌∷◌, Option}
-use Rattle.serde_amqp.specs.Tree.{Tree, code}
-use Rattle.serde_amqp.specs.Words.{required_value, optional_value, short_composite, of_bool, of_string, of_symbol, of_u32, of_u64}
-use Rattle.example_composites.specs.Values.{of_fields}
-use Rattle.example_composites.specs.declared.outcomes.Accepted.{Accepted}
-use Rattle.example_composites.specs.declared.outcomes.DeliveryState.{DeliveryState}
-use Rattle.example_composites.specs.declared.outcomes.DeliveryState.TheVariants as state
-use Rattle.example_composites.specs.declared.outcomes.ErrorReport.{ErrorReport}
-use Rattle.example_composites.specs.declared.outcomes.Modified.{Modified}
-use Rattle.example_composites.specs.declared.outcomes.Outcome.{Outcome}
-use Rattle.example_composites.specs.declared.outcomes.Outcome.TheVariants as outcome
-use Rattle.example_composites.specs.declared.outcomes.Received.{Received}
-use Rattle.example_composites.specs.declared.outcomes.Rejected.{Rejected}
-use Rattle.example_composites.specs.declared.outcomes.Released.{Released}
+use Rattle.amqp_ser.specs.Tree.{Tree, code}
+use Rattle.amqp_ser.specs.Words.{required_value, optional_value, short_composite, of_bool, of_string, of_symbol, of_u32, of_u64}
+use Rattle.tool_shapes.specs.Values.{of_fields}
+use Rattle.tool_shapes.specs.declared.composites.outcomes.Accepted.{Accepted}
+use Rattle.tool_shapes.specs.declared.composites.outcomes.DeliveryState.{DeliveryState}
+use Rattle.tool_shapes.specs.declared.composites.outcomes.DeliveryState.TheVariants as state
+use Rattle.tool_shapes.specs.declared.composites.outcomes.ErrorReport.{ErrorReport}
+use Rattle.tool_shapes.specs.declared.composites.outcomes.Modified.{Modified}
+use Rattle.tool_shapes.specs.declared.composites.outcomes.Outcome.{Outcome}
+use Rattle.tool_shapes.specs.declared.composites.outcomes.Outcome.TheVariants as outcome
+use Rattle.tool_shapes.specs.declared.composites.outcomes.Received.{Received}
+use Rattle.tool_shapes.specs.declared.composites.outcomes.Rejected.{Rejected}
+use Rattle.tool_shapes.specs.declared.composites.outcomes.Released.{Released}
 
 -- condition, description, info (part 2, section 2.8.14)
 abbrev pub of_error : ErrorReport → Option Tree

@@ -1,20 +1,18 @@
 //! The performatives that deliver messages.
-//!
-//! For readers who need described lists with required and optional fields.
 
 ghost use Rattle.std.specs.Prelude.{◌∷◌, []};
-ghost use Rattle.serde_amqp.specs.Tree.{code};
-ghost use Rattle.serde_amqp.specs.Words.{required_value, optional_value, short_composite, of_binary, of_bool, of_u32};
-ghost use Rattle.example_composites.specs.Outcomes.{of_state};
-ghost use Rattle.example_composites.specs.Restricted.{of_receiver_mode, of_role};
-ghost use Rattle.example_composites.specs.Values.{of_fields};
+ghost use Rattle.amqp_ser.specs.Tree.{code};
+ghost use Rattle.amqp_ser.specs.Words.{required_value, optional_value, short_composite, of_binary, of_bool, of_u32};
+ghost use Rattle.tool_shapes.specs.Outcomes.{of_state};
+ghost use Rattle.tool_shapes.specs.Restricted.{of_receiver_mode, of_role};
+ghost use Rattle.tool_shapes.specs.Values.{of_fields};
 
-use crate::outcomes::DeliveryState;
-use crate::restricted::{ReceiverSettleMode, Role};
-use crate::values::{
+use crate::composites::outcomes::DeliveryState;
+use crate::composites::restricted::{ReceiverSettleMode, Role};
+use crate::composites::values::{
     DeliveryNumber, DeliveryTag, FieldMap, Handle, MessageFormat, SequenceNumber, TransferNumber,
 };
-use serde_amqp::ser::{ListOf, Serialize, SerializeCompounds, Serializer, fields};
+use amqp_ser::{ListOf, Serialize, SerializeCompounds, Serializer, fields};
 
 /// The flow performative, which updates how much may be sent in a session and on a link (AMQP 1.0
 /// part 2, section 2.7.4).

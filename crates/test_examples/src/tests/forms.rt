@@ -1,12 +1,13 @@
-//! Tests of composites of other forms than those of the standard.
+//! Tests of the bytes and lengths of composites of other forms than those of the standard.
 //!
-//! Shows readers of `example_composites` the bytes of the types in `forms`. They are written by
-//! hand, from the rules of the standard.
+//! Shows readers of `example_reading` the bytes of the types in `forms`. They are written by hand,
+//! from the rules of the standard.
 
-use super::has;
-use super::makers::{symbol, text};
-use example_composites::{Begun, Configured, Labelled, Pair, Plain, Shape, Tagged};
-use serde_amqp::primitives::F64Bits;
+use super::{wrong, wrong_error, wrong_number};
+use example_reading::{Begun, Configured, Labelled, Pair, Plain, Shape, Tagged};
+use serde_amqp::primitives::{F64Bits, Symbol};
+use serde_amqp::ser::Serialize;
+use serde_amqp::{serialized_size, to_vec};
 use std::alloc::Global;
 
 #[test]
@@ -81,4 +82,42 @@ fn a_box() -> Shape {
         solid: false,
         weight: F64Bits::from(0x3ff0000000000000u64),
     }
+}
+
+/// Returns `true` if `bytes` is the encoding of the value, and their number the length that
+/// `serialized_size` returns.
+fn has<T: Serialize + Drop>(rt: &HostRuntime, name: &str, value: Option<T>, bytes: &[u8]) -> bool {
+    match value {
+        Some(value) => is_written(rt, name, &value, bytes) && is_counted(rt, name, &value, bytes),
+        None => wrong(rt, name, "no memory for the value"),
+    }
+}
+
+fn is_written<T: Serialize>(rt: &HostRuntime, name: &str, value: &T, bytes: &[u8]) -> bool {
+    match to_vec(rt.alloc(), value) {
+        Ok(written) => written.as_slice() == bytes || other_bytes(rt, name, &written),
+        Err(error) => wrong_error(rt, name, &error),
+    }
+}
+
+fn other_bytes(rt: &HostRuntime, name: &str, bytes: &[u8]) -> bool {
+    match hex::encode(rt.alloc(), bytes) {
+        Ok(text) => wrong(rt, name, &text),
+        Err(_) => wrong(rt, name, "other bytes"),
+    }
+}
+
+fn is_counted<T: Serialize>(rt: &HostRuntime, name: &str, value: &T, bytes: &[u8]) -> bool {
+    match serialized_size(value) {
+        Ok(size) => size == bytes.len() || wrong_number(rt, name, size as u64),
+        Err(error) => wrong_error(rt, name, &error),
+    }
+}
+
+fn text(a: Global, s: &str) -> Option<String> {
+    String::from_str(a, s).ok()
+}
+
+fn symbol(a: Global, s: &str) -> Option<Symbol> {
+    Symbol::try_from_str(a, s).ok()
 }

@@ -1,33 +1,26 @@
--- The trees of fields that allow one of several types, and of maps of values (AMQP 1.0 part 1,
--- section 1.4, part 2, section 2.8, and part 3, section 3.2), for the contracts of the fields.
+-- The trees of fields that allow one of several types, and of maps of values (AMQP 1.0 part 2,
+-- section 2.8, and part 3, section 3.2), for the contracts of the fields.
 use Rattle.std.specs.Prelude.{Option, Some}
 use Rattle.std.specs.declared.string.String.{String}
 use Rattle.std.specs.declared.alloc.Global.{Global}
-use Rattle.serde_amqp.specs.OrderedMap.{OrderedMap}
-use Rattle.serde_amqp.specs.Symbol.{Symbol}
-use Rattle.serde_amqp.specs.Tree.{Tree}
-use Rattle.serde_amqp.specs.Words.{of_null, of_bool, of_u8, of_u16, of_u32, of_u64, of_i8, of_i16, of_i32, of_i64, of_f32, of_f64, of_dec32, of_dec64, of_dec128, of_char, of_timestamp, of_uuid, of_binary, of_string, of_symbol, of_array, of_map}
-use Rattle.serde_amqp.specs.TreeOf.{tree_of}
-use Rattle.serde_amqp.specs.Value.{Value}
-use Rattle.example_composites.specs.declared.values.Address.{Address}
-use Rattle.example_composites.specs.declared.values.Address.TheVariants as address
-use Rattle.example_composites.specs.declared.values.AnnotationKey.{AnnotationKey}
-use Rattle.example_composites.specs.declared.values.AnnotationKey.TheVariants as key
-use Rattle.example_composites.specs.declared.values.MessageId.{MessageId}
-use Rattle.example_composites.specs.declared.values.MessageId.TheVariants as id
-use Rattle.example_composites.specs.declared.values.Multiple.{Multiple}
-use Rattle.example_composites.specs.declared.values.Multiple.TheVariants as multiple
-use Rattle.example_composites.specs.declared.values.SimpleValue.{SimpleValue}
-use Rattle.example_composites.specs.declared.values.SimpleValue.TheVariants as simple
+use Rattle.amqp_data.specs.declared.ordered_map.OrderedMap.{OrderedMap}
+use Rattle.amqp_data.specs.declared.symbol.Symbol.{Symbol}
+use Rattle.amqp_ser.specs.Tree.{Tree}
+use Rattle.amqp_ser.specs.Words.{of_null, of_bool, of_u8, of_u16, of_u32, of_u64, of_i8, of_i16, of_i32, of_i64, of_f32, of_f64, of_dec32, of_dec64, of_dec128, of_char, of_timestamp, of_uuid, of_binary, of_string, of_symbol, of_map}
+use Rattle.amqp_value.specs.TreeOf.{tree_of}
+use Rattle.amqp_value.specs.declared.value.Value.{Value}
+use Rattle.tool_shapes.specs.declared.composites.values.Address.{Address}
+use Rattle.tool_shapes.specs.declared.composites.values.Address.TheVariants as address
+use Rattle.tool_shapes.specs.declared.composites.values.AnnotationKey.{AnnotationKey}
+use Rattle.tool_shapes.specs.declared.composites.values.AnnotationKey.TheVariants as key
+use Rattle.tool_shapes.specs.declared.composites.values.MessageId.{MessageId}
+use Rattle.tool_shapes.specs.declared.composites.values.MessageId.TheVariants as id
+use Rattle.tool_shapes.specs.declared.composites.values.SimpleValue.{SimpleValue}
+use Rattle.tool_shapes.specs.declared.composites.values.SimpleValue.TheVariants as simple
 
 -- a value of any type
 abbrev pub of_value : Value → Option Tree
 of_value v = Some (tree_of v)
-
--- a field that allows several values: one value, or an array (part 1, section 1.4)
-abbrev pub of_multiple : {T : Type 0} → (T → Option Tree) → Multiple T → Option Tree
-of_multiple f (multiple.One x) = f x
-of_multiple f (multiple.Many xs) = of_array f xs
 
 -- fields: a map from symbols to values (part 2, section 2.8.13)
 abbrev pub of_fields : OrderedMap Symbol Value → Option Tree
