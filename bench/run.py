@@ -5,8 +5,8 @@
 Needs rt, rustc and ar, and valgrind for the instructions. --library takes a library that stands ready, made by --keep:
 FOLDER/libamqp.a is the project with the kit's heap functions, in one file. --jobs takes a built program tool_jobs, whose
 workloads are counted. --check measures the project's instructions and allocations alone, compares them with the tables of
-README.md, and fails where one is more than three percent above them. --proton measures reading untyped values and types
-beside Qpid Proton alone, and needs libqpid-proton11-dev.
+README.md, and fails where one is more than three percent above them. --proton measures reading untyped values and types,
+and writing and reading frames and messages, beside Qpid Proton alone, and needs libqpid-proton11-dev.
 """
 import datetime
 import os
@@ -18,7 +18,7 @@ import tempfile
 HERE = os.path.dirname(os.path.abspath(__file__))
 CRATES = os.path.join(HERE, '..', 'crates')
 # Code that one place calls is in line there: so what writes by a kept encoder has a library of its own.
-LIBRARIES = ['tool_bench', 'tool_reads']
+LIBRARIES = ['tool_bench', 'tool_reads', 'tool_frames']
 CALLS = {0: 'size', 1: 'bytes', 3: 'value', 4: 'text', 5: 'read', 6: 'typed', 7: 'untyped size', 8: 'untyped bytes', 10: 'kept'}
 READ, UNTYPED_SIZE, UNTYPED_BYTES = 5, 7, 8
 # The calls that answer with the length of the bytes, and those that answer with the hash.
@@ -201,6 +201,9 @@ def beside_proton(built):
         for line in run([built, 'time', 'reads']).splitlines():
             who, index, least = line.split()
             ns[who, 'type', index] = float(least)
+        for line in run([built, 'time', 'frames']).splitlines():
+            who, index, op, least = line.split()
+            ns[who, index, op] = float(least)
     parts = ['Proton', 'and its tree', 'Proton / project', 'and its tree']
     heading(['Shape', 'instructions: project'] + parts + ['ns: project'] + parts)
     for shape, name in names.items():
@@ -212,6 +215,14 @@ def beside_proton(built):
         index, _, name = line.split(' ', 2)
         who = ['project', 'walked']
         show_beside(name, [instructions([built, 'reads', one, index]) for one in who], [ns.get((one, 'type', index)) for one in who])
+    print()
+    heading(['Frame or message', 'instructions: project', 'Proton', 'Proton / project', 'ns: project', 'Proton', 'Proton / project'])
+    for line in run([built, 'frames']).splitlines():
+        index, _, name = line.split(' ', 2)
+        who = ['project', 'proton']
+        for op, word in enumerate(['written', 'read']):
+            counts = [instructions([built, 'frames', one, index, str(op)]) for one in who]
+            show_beside('%s, %s' % (name, word), counts, [ns.get((one, index, str(op))) for one in who])
 
 
 def show_beside(name, counts, least):

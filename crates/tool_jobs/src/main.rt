@@ -7,8 +7,10 @@
 //! | Job | Work |
 //! |---|---|
 //! | `send` | lengths and bytes of the performatives and sections of messages |
+//! | `send_types` | the same as `send`, and the same digest, over `amqp_types` |
 //! | `receive` | sections taken off a reader, decoded, and read as types |
 //! | `typed` | the same as `receive`, and the same digest; sections are read as types from their bytes |
+//! | `receive_types` | the same as `receive`, and the same digest, over `amqp_types` |
 //! | `route` | maps decoded, searched, changed, compared and written again |
 //! | `show` | texts of values, and the two runs of `amqpv` |
 //! | `batch` | rows, arrays and maps: written, converted, decoded and read as types |
@@ -52,8 +54,10 @@ fn main(rt: HostRuntime) -> ExitCode {
 // Runs a small number of rounds of every job.
 fn run_all(rt: &(impl Print + AllocGlobal)) -> Result<(), Error> {
     print_digest(rt, b"send", 1, 2, 5)?;
+    print_digest(rt, b"send_types", 1, 2, 5)?;
     print_digest(rt, b"receive", 1, 2, 5)?;
     print_digest(rt, b"typed", 1, 2, 5)?;
+    print_digest(rt, b"receive_types", 1, 2, 5)?;
     print_digest(rt, b"route", 1, 2, 5)?;
     print_digest(rt, b"show", 1, 1, 5)?;
     print_digest(rt, b"batch", 1, 1, 5)?;
@@ -109,8 +113,10 @@ fn run_job(
 ) -> Result<(), Error> {
     match job {
         b"send" => send::run(alloc, random, rounds, digest),
+        b"send_types" => send::types::run(alloc, random, rounds, digest),
         b"receive" => receive::run(alloc, random, rounds, digest),
         b"typed" => receive::typed::run(alloc, random, rounds, digest),
+        b"receive_types" => receive::types::run(alloc, random, rounds, digest),
         b"route" => route::run(alloc, random, rounds, digest),
         b"show" => show::run(alloc, random, rounds, digest),
         b"batch" => batch::run(alloc, random, rounds, percent, digest),

@@ -2,6 +2,7 @@
 //! stays undecoded.
 
 pub mod typed;
+pub mod types;
 
 use crate::long_forms::put_section;
 use crate::places::{LONG_MARKER, MARKER, Marked};

@@ -79,14 +79,14 @@ fn receive_slice(alloc: Global, message: &[u8], digest: &mut Digest) -> Result<(
     Ok(())
 }
 
-// Takes the next section and reads it as a type.
-fn next<T: Deserialize, R: Read>(alloc: Global, reader: &mut R) -> Result<T, Error> {
+/// Takes the next section and reads it as a type.
+pub fn next<T: Deserialize, R: Read>(alloc: Global, reader: &mut R) -> Result<T, Error> {
     let section = LazyValue::from_reader(alloc, reader)?;
     from_slice(alloc, section.as_slice())
 }
 
-// Reads the first section as a type, and returns it with the bytes after it.
-fn split<T: Deserialize>(alloc: Global, bytes: &[u8]) -> Result<(T, &[u8]), Error> {
+/// Reads the first section as a type, and returns it with the bytes after it.
+pub fn split<T: Deserialize>(alloc: Global, bytes: &[u8]) -> Result<(T, &[u8]), Error> {
     let Some(len) = frame_len(bytes) else {
         return Err(Error::UnexpectedEof);
     };
@@ -95,7 +95,8 @@ fn split<T: Deserialize>(alloc: Global, bytes: &[u8]) -> Result<(T, &[u8]), Erro
     Ok((read, rest))
 }
 
-fn add_entries(map: &OrderedMap<String, Value>, digest: &mut Digest) {
+/// Adds application properties.
+pub fn add_entries(map: &OrderedMap<String, Value>, digest: &mut Digest) {
     for (key, value) in map {
         digest.bytes(key.as_bytes());
         digest.scalar(value);
