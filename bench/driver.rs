@@ -391,11 +391,12 @@ mod proton {
     use std::ffi::{c_char, c_void};
 
     /// The first kind that has nodes inside.
-    const DESCRIBED: i32 = 22;
+    pub const DESCRIBED: i32 = 22;
 
     /// A scalar, or the length and the place of its bytes.
+    #[derive(Clone, Copy)]
     #[repr(C)]
-    struct Atom {
+    pub struct Atom {
         kind: i32,
         value: [u64; 2],
     }
@@ -405,11 +406,12 @@ mod proton {
         fn pn_data_decode(data: *mut c_void, bytes: *const c_char, size: usize) -> isize;
         fn pn_data_free(data: *mut c_void);
         fn pn_data_rewind(data: *mut c_void);
-        fn pn_data_next(data: *mut c_void) -> bool;
-        fn pn_data_type(data: *mut c_void) -> i32;
-        fn pn_data_enter(data: *mut c_void) -> bool;
-        fn pn_data_exit(data: *mut c_void) -> bool;
-        fn pn_data_get_atom(data: *mut c_void) -> Atom;
+        pub fn pn_data_clear(data: *mut c_void);
+        pub fn pn_data_next(data: *mut c_void) -> bool;
+        pub fn pn_data_type(data: *mut c_void) -> i32;
+        pub fn pn_data_enter(data: *mut c_void) -> bool;
+        pub fn pn_data_exit(data: *mut c_void) -> bool;
+        pub fn pn_data_get_atom(data: *mut c_void) -> Atom;
     }
 
     /// Visits each node once and takes its scalar. Texts are not copied.
@@ -433,12 +435,16 @@ mod proton {
     pub struct Tree(pub *mut c_void);
 
     impl Tree {
+        pub fn new() -> Tree {
+            Tree(unsafe { pn_data(16) })
+        }
+
         pub fn decode(bytes: &[u8]) -> (Tree, usize) {
             unsafe {
-                let data = pn_data(16);
-                let taken = pn_data_decode(data, bytes.as_ptr().cast(), bytes.len());
-                pn_data_rewind(data);
-                (Tree(data), taken.max(0) as usize)
+                let tree = Tree::new();
+                let taken = pn_data_decode(tree.0, bytes.as_ptr().cast(), bytes.len());
+                pn_data_rewind(tree.0);
+                (tree, taken.max(0) as usize)
             }
         }
     }

@@ -1,6 +1,7 @@
 //! Frames and messages of the standard, written and read by the project, and by Qpid Proton where built with --cfg proton.
 //!
-//! Proton writes from a tree or a message that stands ready, into a buffer that does; the project into a fresh vector.
+//! Proton writes a frame by putting its fields into a tree, which it encodes, and a message that stands ready; both into a
+//! buffer that stands ready. The project writes a type into a fresh vector.
 
 use std::hint::black_box;
 
@@ -44,7 +45,7 @@ fn frame(body: &[u8]) -> Vec<u8> {
 }
 
 fn open() -> Vec<u8> {
-    let capabilities = [&[0xe0, 0x26, 0x02, 0xb3][..], b"\0\0\0\x0cDELAYED-DELI", b"\0\0\0\x0eANONYMOUS-RELA"].concat();
+    let capabilities = [&b"\xe0\x24\x02\xb3"[..], b"\0\0\0\x0fANONYMOUS-RELAY", b"\0\0\0\x0bSHARED-SUBS"].concat();
     let properties = [symbol("product"), string("fimoruke"), symbol("version"), string("1.0.0"), symbol("platform"), string("x86_64-linux")];
     frame(&compound(
         b"\0\x53\x10\xc0",
@@ -83,7 +84,7 @@ fn message() -> Vec<u8> {
         at(1_800_000_000_000),
         at(1_700_000_000_123),
         string("orders-of-today"),
-        uint(17),
+        vec![0x52, 17],
     ];
     let application = [
         [string("region"), string("eu-west-1")],
@@ -118,7 +119,7 @@ pub fn run(who: &str, index: usize, op: u32, times: u64) -> u64 {
     let bytes = bytes(index);
     match (who, op) {
         ("project", _) => unsafe { amqp_frames(WORKS[index].1, op, bytes.as_ptr(), bytes.len(), times) },
-        (_, 0) if index < 2 => proton::write_frames(&bytes[8..], times),
+        (_, 0) if index < 2 => proton::write_frames(black_box(&bytes[8..]), times),
         (_, _) if index < 2 => (0..times).map(|_| proton::read_frame(black_box(&bytes))).sum(),
         (_, 0) => proton::write_messages(&bytes, times),
         _ => (0..times).map(|_| proton::read_message(black_box(&bytes))).sum(),
@@ -127,22 +128,79 @@ pub fn run(who: &str, index: usize, op: u32, times: u64) -> u64 {
 
 #[cfg(proton)]
 mod proton {
-    use crate::proton::{Tree, walk};
+    use crate::proton::{Atom, DESCRIBED, Tree, pn_data_clear, pn_data_enter, pn_data_exit, pn_data_get_atom, pn_data_next, pn_data_type, walk};
     use std::ffi::{c_char, c_void};
+
+    /// The kinds that have nodes inside, beside DESCRIBED.
+    const ARRAY: i32 = 23;
+    const LIST: i32 = 24;
 
     unsafe extern "C" {
         fn pn_data_encode(data: *mut c_void, bytes: *mut c_char, size: usize) -> isize;
+        fn pn_data_get_array_type(data: *mut c_void) -> i32;
+        fn pn_data_put_atom(data: *mut c_void, atom: Atom) -> i32;
+        fn pn_data_put_array(data: *mut c_void, is_described: bool, kind: i32) -> i32;
+        fn pn_data_put_described(data: *mut c_void) -> i32;
+        fn pn_data_put_list(data: *mut c_void) -> i32;
+        fn pn_data_put_map(data: *mut c_void) -> i32;
         fn pn_message() -> *mut c_void;
         fn pn_message_free(message: *mut c_void);
         fn pn_message_decode(message: *mut c_void, bytes: *const c_char, size: usize) -> i32;
         fn pn_message_encode(message: *mut c_void, bytes: *mut c_char, size: *mut usize) -> i32;
     }
 
+    /// A call that builds a tree.
+    enum Put {
+        Scalar(Atom),
+        Open(i32, i32),
+        Close,
+    }
+
+    /// The calls that build the tree again. Texts are not copied.
+    unsafe fn puts(data: *mut c_void, calls: &mut Vec<Put>) {
+        unsafe {
+            while pn_data_next(data) {
+                let kind = pn_data_type(data);
+                if kind < DESCRIBED {
+                    calls.push(Put::Scalar(pn_data_get_atom(data)));
+                } else {
+                    calls.push(Put::Open(kind, pn_data_get_array_type(data)));
+                    pn_data_enter(data);
+                    puts(data, calls);
+                    pn_data_exit(data);
+                    calls.push(Put::Close);
+                }
+            }
+        }
+    }
+
+    unsafe fn put(data: *mut c_void, call: &Put) {
+        unsafe {
+            match call {
+                Put::Scalar(atom) => _ = pn_data_put_atom(data, *atom),
+                Put::Close => _ = pn_data_exit(data),
+                Put::Open(kind, element) => {
+                    match *kind {
+                        DESCRIBED => pn_data_put_described(data),
+                        ARRAY => pn_data_put_array(data, false, *element),
+                        LIST => pn_data_put_list(data),
+                        _ => pn_data_put_map(data),
+                    };
+                    pn_data_enter(data);
+                }
+            }
+        }
+    }
+
     /// Writes the header, the performative and the payload of a frame into a buffer.
     #[inline(never)]
-    fn write_frame(tree: &Tree, payload: &[u8], buffer: &mut [u8]) -> u64 {
+    fn write_frame(tree: &Tree, calls: &[Put], payload: &[u8], buffer: &mut [u8]) -> u64 {
         let (head, body) = buffer.split_at_mut(8);
-        let len = unsafe { pn_data_encode(tree.0, body.as_mut_ptr().cast(), body.len()) } as usize;
+        let len = unsafe {
+            pn_data_clear(tree.0);
+            calls.iter().for_each(|call| put(tree.0, call));
+            pn_data_encode(tree.0, body.as_mut_ptr().cast(), body.len()) as usize
+        };
         body[len..len + payload.len()].copy_from_slice(payload);
         let size = 8 + len + payload.len();
         head[..4].copy_from_slice(&(size as u32).to_be_bytes());
@@ -151,9 +209,10 @@ mod proton {
     }
 
     pub fn write_frames(body: &[u8], times: u64) -> u64 {
-        let (tree, taken) = Tree::decode(body);
-        let mut buffer = vec![0; 4096];
-        (0..times).map(|_| write_frame(&tree, &body[taken..], &mut buffer)).sum()
+        let (read, taken) = Tree::decode(body);
+        let (tree, mut calls, mut buffer) = (Tree::new(), Vec::new(), vec![0; 4096]);
+        unsafe { puts(read.0, &mut calls) };
+        (0..times).map(|_| write_frame(&tree, &calls, &body[taken..], &mut buffer)).sum()
     }
 
     /// Reads a frame: its header, and the performative, whose tree is visited.

@@ -7,7 +7,7 @@ use amqp_types::{
 };
 use serde_amqp::de::Deserialize;
 use serde_amqp::ser::Serialize;
-use serde_amqp::{Error, Value, from_slice, to_vec};
+use serde_amqp::{Error, Value, from_value, to_value};
 use std::alloc::Global;
 use tool_shapes::messages::{Message, disposition, flow};
 use tool_shapes::texts::body;
@@ -65,9 +65,10 @@ impl Parts {
     }
 }
 
-// Returns the value with the same bytes as a part.
+// Returns the value with the same bytes as a part. `to_vec` of a part would be in line nowhere, if it
+// were called here too.
 fn same<T: Serialize, U: Deserialize>(alloc: Global, part: &T) -> Result<U, Error> {
-    from_slice(alloc, &to_vec(alloc, part)?)
+    from_value(alloc, to_value(alloc, part)?)
 }
 
 /// Writes the messages of `super::run`, and adds the same to the digest.
