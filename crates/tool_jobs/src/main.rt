@@ -7,10 +7,8 @@
 //! | Job | Work |
 //! |---|---|
 //! | `send` | lengths and bytes of the performatives and sections of messages |
-//! | `send_types` | the same as `send`, and the same digest, over `amqp_types` |
 //! | `receive` | sections taken off a reader, decoded, and read as types |
 //! | `typed` | the same as `receive`, and the same digest; sections are read as types from their bytes |
-//! | `receive_types` | the same as `receive`, and the same digest, over `amqp_types` |
 //! | `route` | maps decoded, searched, changed, compared and written again |
 //! | `show` | texts of values, and the two runs of `amqpv` |
 //! | `batch` | rows, arrays and maps: written, converted, decoded and read as types |
@@ -20,10 +18,8 @@
 mod awkward;
 mod batch;
 mod batch_maps;
-mod long_forms;
 mod numbers;
 mod one_byte;
-mod places;
 mod receive;
 mod route;
 mod sections;
@@ -34,7 +30,7 @@ use serde_amqp::Error;
 use std::alloc::Global;
 use std::env::Env;
 use std::process::ExitCode;
-use tool_shapes::{Digest, Random};
+use tool_shapes::{Digest, Random, number_argument};
 
 fn main(rt: HostRuntime) -> ExitCode {
     let mut word = [0; 16];
@@ -54,10 +50,8 @@ fn main(rt: HostRuntime) -> ExitCode {
 // Runs a small number of rounds of every job.
 fn run_all(rt: &(impl Print + AllocGlobal)) -> Result<(), Error> {
     print_digest(rt, b"send", 1, 2, 5)?;
-    print_digest(rt, b"send_types", 1, 2, 5)?;
     print_digest(rt, b"receive", 1, 2, 5)?;
     print_digest(rt, b"typed", 1, 2, 5)?;
-    print_digest(rt, b"receive_types", 1, 2, 5)?;
     print_digest(rt, b"route", 1, 2, 5)?;
     print_digest(rt, b"show", 1, 1, 5)?;
     print_digest(rt, b"batch", 1, 1, 5)?;
@@ -69,21 +63,6 @@ fn run_named(rt: &(impl Env + Print + AllocGlobal), job: &[u8]) -> Result<(), Er
     let seed = number_argument(rt, 2)?;
     let rounds = number_argument(rt, 3)?;
     print_digest(rt, job, seed, rounds, 100)
-}
-
-// Returns the number that is the argument at this index.
-fn number_argument(rt: &impl Env, index: usize) -> Result<u64, Error> {
-    let mut word = [0; 20];
-    let Ok(len) = rt.arg(index, &mut word) else {
-        return Err(Error::Message("a number is missing"));
-    };
-    let Ok(text) = str::from_utf8(&word[..len]) else {
-        return Err(Error::InvalidValue);
-    };
-    match text.parse() {
-        Ok(number) => Ok(number),
-        Err(_) => Err(Error::InvalidValue),
-    }
 }
 
 // Runs a job with a part of its elements, in percent, and prints the digest of its results.
@@ -113,10 +92,8 @@ fn run_job(
 ) -> Result<(), Error> {
     match job {
         b"send" => send::run(alloc, random, rounds, digest),
-        b"send_types" => send::types::run(alloc, random, rounds, digest),
         b"receive" => receive::run(alloc, random, rounds, digest),
         b"typed" => receive::typed::run(alloc, random, rounds, digest),
-        b"receive_types" => receive::types::run(alloc, random, rounds, digest),
         b"route" => route::run(alloc, random, rounds, digest),
         b"show" => show::run(alloc, random, rounds, digest),
         b"batch" => batch::run(alloc, random, rounds, percent, digest),

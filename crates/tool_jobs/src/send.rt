@@ -1,7 +1,5 @@
 //! A client that writes each part of its messages: first the length, then the bytes.
 
-pub mod types;
-
 use serde_amqp::ser::Serialize;
 use serde_amqp::{Error, serialized_size, to_vec};
 use std::alloc::Global;

@@ -1,8 +1,7 @@
 //! A receiver that reads the sections of messages as types from their bytes. The body stays
 //! undecoded.
 
-use super::{add_header, add_properties, content, encoded};
-use crate::places::Marked;
+use super::{add_header, add_properties, content};
 use crate::sections::{Header, Properties};
 use serde_amqp::de::Deserialize;
 use serde_amqp::described::Described;
@@ -12,6 +11,8 @@ use serde_amqp::read::{IoReader, Read};
 use serde_amqp::{Error, Value, from_slice};
 use std::alloc::Global;
 use std::io::BufReader;
+use tool_shapes::places::Marked;
+use tool_shapes::received::encoded;
 use tool_shapes::{Digest, Random};
 
 /// The application properties after their descriptor.
@@ -79,14 +80,14 @@ fn receive_slice(alloc: Global, message: &[u8], digest: &mut Digest) -> Result<(
     Ok(())
 }
 
-/// Takes the next section and reads it as a type.
-pub fn next<T: Deserialize, R: Read>(alloc: Global, reader: &mut R) -> Result<T, Error> {
+// Takes the next section and reads it as a type.
+fn next<T: Deserialize, R: Read>(alloc: Global, reader: &mut R) -> Result<T, Error> {
     let section = LazyValue::from_reader(alloc, reader)?;
     from_slice(alloc, section.as_slice())
 }
 
-/// Reads the first section as a type, and returns it with the bytes after it.
-pub fn split<T: Deserialize>(alloc: Global, bytes: &[u8]) -> Result<(T, &[u8]), Error> {
+// Reads the first section as a type, and returns it with the bytes after it.
+fn split<T: Deserialize>(alloc: Global, bytes: &[u8]) -> Result<(T, &[u8]), Error> {
     let Some(len) = frame_len(bytes) else {
         return Err(Error::UnexpectedEof);
     };
@@ -95,8 +96,7 @@ pub fn split<T: Deserialize>(alloc: Global, bytes: &[u8]) -> Result<(T, &[u8]), 
     Ok((read, rest))
 }
 
-/// Adds application properties.
-pub fn add_entries(map: &OrderedMap<String, Value>, digest: &mut Digest) {
+fn add_entries(map: &OrderedMap<String, Value>, digest: &mut Digest) {
     for (key, value) in map {
         digest.bytes(key.as_bytes());
         digest.scalar(value);

@@ -1,7 +1,8 @@
 //! The sections of peers that write every list, map, text and number in its longest encoding.
 
-use serde_amqp::descriptor::Descriptor;
-use serde_amqp::{Error, Value, to_vec};
+use amqp_data::{Descriptor, Error};
+use amqp_value::Value;
+use amqp_wire::to_vec;
 use std::alloc::Global;
 
 /// Appends a section: a described value whose content has no compounds inside compounds.

@@ -1,21 +1,22 @@
-//! The receiver of `receive` over the types of the standard. A message in memory is read in one
-//! call, without its body.
+//! A receiver that reads messages as types of the standard. A message in memory is read in one call,
+//! without its body.
 
-use super::typed::{add_entries, next, split};
-use super::{add_text, encoded};
-use crate::places::Marked;
 use amqp_types::{
     Address, AnnotationKey, ApplicationProperties, Header, LazyMessage, MessageAnnotations,
     MessageError, MessageId, Properties, Transfer,
 };
-use serde_amqp::Error;
-use serde_amqp::lazy::LazyValue;
+use serde_amqp::de::Deserialize;
+use serde_amqp::lazy::{LazyValue, frame_len};
+use serde_amqp::primitives::OrderedMap;
 use serde_amqp::read::{IoReader, Read};
+use serde_amqp::{Error, Value, from_slice};
 use std::alloc::Global;
 use std::io::BufReader;
+use tool_shapes::places::Marked;
+use tool_shapes::received::encoded;
 use tool_shapes::{Digest, Random};
 
-/// Receives the messages of `super::run`, and adds the same to the digest.
+/// Receives `rounds` times 64 messages, every other one in the longest encodings.
 pub fn run(
     alloc: Global,
     random: &mut Random,
@@ -86,6 +87,22 @@ fn receive_slice(alloc: Global, bytes: &[u8], digest: &mut Digest) -> Result<(),
     Ok(())
 }
 
+// Takes the next section and reads it as a type.
+fn next<T: Deserialize, R: Read>(alloc: Global, reader: &mut R) -> Result<T, Error> {
+    let section = LazyValue::from_reader(alloc, reader)?;
+    from_slice(alloc, section.as_slice())
+}
+
+// Reads the first section as a type, and returns it with the bytes after it.
+fn split<T: Deserialize>(alloc: Global, bytes: &[u8]) -> Result<(T, &[u8]), Error> {
+    let Some(len) = frame_len(bytes) else {
+        return Err(Error::UnexpectedEof);
+    };
+    let (section, rest) = bytes.split_at(len);
+    let read = from_slice(alloc, section)?;
+    Ok((read, rest))
+}
+
 // Adds the eleven fields of a transfer.
 fn add_transfer(transfer: &Transfer, digest: &mut Digest) {
     digest.number(11);
@@ -132,6 +149,20 @@ fn add_annotations(annotations: &MessageAnnotations, digest: &mut Digest) {
             AnnotationKey::Ulong(number) => digest.number(*number),
         }
         digest.scalar(value);
+    }
+}
+
+fn add_entries(map: &OrderedMap<String, Value>, digest: &mut Digest) {
+    for (key, value) in map {
+        digest.bytes(key.as_bytes());
+        digest.scalar(value);
+    }
+}
+
+fn add_text(text: &Option<String>, digest: &mut Digest) {
+    match text {
+        Some(text) => digest.bytes(text.as_bytes()),
+        None => digest.number(0),
     }
 }
 

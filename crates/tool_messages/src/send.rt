@@ -1,13 +1,13 @@
-//! The client of `send` over the types of the standard.
+//! A client that writes each part of its messages as a type of the standard: first the length, then
+//! the bytes.
 
-use super::write;
 use amqp_types::{
     AnnotationKey, ApplicationProperties, Data, Disposition, Flow, Header, MessageAnnotations,
     Properties, Transfer,
 };
 use serde_amqp::de::Deserialize;
 use serde_amqp::ser::Serialize;
-use serde_amqp::{Error, Value, from_value, to_value};
+use serde_amqp::{Error, Value, from_value, serialized_size, to_value, to_vec};
 use std::alloc::Global;
 use tool_shapes::messages::{Message, disposition, flow};
 use tool_shapes::texts::body;
@@ -65,13 +65,20 @@ impl Parts {
     }
 }
 
-// Returns the value with the same bytes as a part. `to_vec` of a part would be in line nowhere, if it
-// were called here too.
+// Measures and writes a part.
+fn write<T: Serialize>(alloc: Global, part: &T, digest: &mut Digest) -> Result<(), Error> {
+    let size = serialized_size(part)?;
+    digest.number(size as u64);
+    digest.bytes(&to_vec(alloc, part)?);
+    Ok(())
+}
+
+// Returns the value with the same bytes as a part.
 fn same<T: Serialize, U: Deserialize>(alloc: Global, part: &T) -> Result<U, Error> {
     from_value(alloc, to_value(alloc, part)?)
 }
 
-/// Writes the messages of `super::run`, and adds the same to the digest.
+/// Writes `rounds` times 64 messages.
 pub fn run(
     alloc: Global,
     random: &mut Random,

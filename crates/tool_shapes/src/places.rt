@@ -1,8 +1,8 @@
 //! The places of a marker in bytes, where each round writes its number.
 
-use serde_amqp::Error;
+use crate::digest::Digest;
+use amqp_data::Error;
 use std::alloc::Global;
-use tool_shapes::Digest;
 
 /// The marker: four bytes, as a number.
 pub const MARKER: u32 = 0x5e5f_5e5f;
