@@ -108,13 +108,13 @@ const READS: [(&str, u32, u32); 16] = [
     ("header, 5 fields", 6, 0),
     ("properties, 13 fields", 7, 0),
     ("12 text keys, six kinds of values", 8, 0),
-    ("map of 1 text key", 9, 1),
-    ("map of 4 text keys", 9, 4),
-    ("map of 8 text keys", 9, 8),
-    ("map of 12 text keys", 9, 12),
-    ("map of 16 text keys", 9, 16),
-    ("map of 32 text keys", 9, 32),
-    ("map of 96 text keys", 9, 96),
+    ("1 text key", 9, 1),
+    ("4 text keys", 9, 4),
+    ("8 text keys", 9, 8),
+    ("12 text keys", 9, 12),
+    ("16 text keys", 9, 16),
+    ("32 text keys", 9, 32),
+    ("96 text keys", 9, 96),
 ];
 
 struct Attach {

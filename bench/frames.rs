@@ -5,9 +5,8 @@
 
 use std::hint::black_box;
 
-/// The works: a name, and the kind in the library.
-pub const WORKS: [(&str, u32); 4] =
-    [("open", 0), ("transfer with 1 KiB", 0), ("message of six sections", 1), ("the message without its body", 2)];
+/// The works: a name, and the kind in the library. The transfer has a payload of 1 KiB, the message six sections.
+pub const WORKS: [(&str, u32); 4] = [("open", 0), ("transfer", 0), ("message", 1), ("lazy message", 2)];
 
 unsafe extern "C" {
     fn amqp_frames(kind: u32, op: u32, data: *const u8, len: usize, times: u64) -> u64;

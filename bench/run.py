@@ -221,7 +221,7 @@ def beside_proton(built):
         who = ['project', 'walked']
         show_beside(name, [instructions([built, 'reads', one, index]) for one in who], [ns.get((one, 'type', index)) for one in who])
     print()
-    heading(['Frame or message', 'instructions: project', 'Proton', 'Proton / project', 'ns: project', 'Proton', 'Proton / project'])
+    heading(['Work', 'instructions: project', 'Proton', 'Proton / project', 'ns: project', 'Proton', 'Proton / project'])
     for line in run([built, 'frames']).splitlines():
         index, _, name = line.split(' ', 2)
         who = ['project', 'proton']
