@@ -2,13 +2,15 @@
 //! station.
 //!
 //! For newcomers who write and read their own types. Each module shows one kind of type; start with
-//! `position`, a struct that is a list of its fields.
+//! `position`, a struct that is a list of its fields. The function in `ranges` encodes and decodes an
+//! untyped value.
 #![tactic(auto)]
 
 mod composites;
 mod day;
 mod maps;
 mod position;
+mod ranges;
 mod region;
 mod report;
 mod round_trips;
@@ -18,6 +20,7 @@ pub use composites::{Limits, Span, Title};
 pub use day::{Day, Rain};
 pub use maps::{Calibration, Contact};
 pub use position::Position;
+pub use ranges::encode_and_decode;
 pub use region::Region;
 pub use report::Report;
 pub use sky::Sky;
