@@ -1,6 +1,5 @@
 //! An untyped value that is encoded and decoded again. Its caller needs no premise on the ranges of its
 //! contents, because a result of `to_lazy_value` states them. No proof is written by hand.
-#![tactic(auto)]
 
 ghost use Rattle.std.specs.Prelude.{◌≡◌, ◌≤◌, MatchResult, true};
 ghost use Rattle.serde_amqp.specs.Depth.{depth_of};
