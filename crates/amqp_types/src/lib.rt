@@ -10,6 +10,7 @@
 mod conditions;
 mod endpoint_conditions;
 mod sasl;
+mod sasl_exchange;
 mod sasl_frame;
 mod sasl_outcome;
 
@@ -37,6 +38,7 @@ pub use amqp_transport::{
 };
 pub use conditions::{AmqpCondition, ConnectionCondition};
 pub use endpoint_conditions::{LinkCondition, SessionCondition, TransactionCondition};
-pub use sasl::{SaslChallenge, SaslInit, SaslMechanisms, SaslResponse};
+pub use sasl::{SaslInit, SaslMechanisms};
+pub use sasl_exchange::{SaslChallenge, SaslResponse};
 pub use sasl_frame::SaslFrame;
 pub use sasl_outcome::{SaslCode, SaslOutcome};

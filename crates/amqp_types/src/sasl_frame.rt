@@ -1,6 +1,7 @@
 //! A frame of SASL, one of several types.
 
-use crate::sasl::{SaslChallenge, SaslInit, SaslMechanisms, SaslResponse};
+use crate::sasl::{SaslInit, SaslMechanisms};
+use crate::sasl_exchange::{SaslChallenge, SaslResponse};
 use crate::sasl_outcome::SaslOutcome;
 use amqp_messaging::Unknown;
 

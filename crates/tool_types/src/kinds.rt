@@ -13,7 +13,7 @@ use amqp_types::{
 };
 use serde_amqp::de::Deserialize;
 use serde_amqp::ser::Serialize;
-use serde_amqp::{Error, from_slice, to_vec};
+use serde_amqp::{Error, from_slice, serialized_size, to_vec};
 use std::alloc::Global;
 
 /// Reads a value of the type with this name, and returns its encoding.
@@ -87,5 +87,10 @@ pub fn written_again(alloc: Global, kind: &str, bytes: &[u8]) -> Result<Vec<u8>,
 }
 
 fn back<T: Deserialize + Serialize>(alloc: Global, bytes: &[u8]) -> Result<Vec<u8>, Error> {
-    to_vec(alloc, &from_slice::<T>(alloc, bytes)?)
+    let value: T = from_slice(alloc, bytes)?;
+    let written = to_vec(alloc, &value)?;
+    if serialized_size(&value)? != written.len() {
+        return Err(Error::Message("another size"));
+    }
+    Ok(written)
 }

@@ -142,7 +142,9 @@ fn variants_are_read_by_their_index(rt: HostRuntime) -> Result<(), Fail> {
     assert!(rt; gives::<Shape>(a, listed, circle)? && !gives_at_once::<Shape>(a, listed, circle)?);
     let two = b"\xc1\x07\x04\x52\x01\x52\x05\x43\x40";
     assert!(rt; refuses::<Shape>(a, b"\x52\x04") && refuses::<Shape>(a, two));
-    assert!(rt; refuses::<Shape>(a, b"\x52\x01") && refuses::<Shape>(a, b"\x53\x00"));
+    let missing = read::<Shape>(a, b"\x52\x01");
+    assert!(rt; matches!(missing, Err(Error::Message("Expecting a value"))));
+    assert!(rt; refuses::<Shape>(a, b"\x53\x00"));
     Ok(())
 }
 
