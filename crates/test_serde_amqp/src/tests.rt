@@ -16,4 +16,5 @@ mod record_paths;
 mod rows;
 mod runs;
 mod streams;
+mod untyped;
 mod value_compounds;
