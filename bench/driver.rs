@@ -5,9 +5,12 @@
 //!     driver maps KIND COUNT OP TIMES      maps read by the project, to be counted from outside
 //!     driver reads                         each type that is read from bytes: WHO is `hand`, `project` or `walked`, and the bytes' length
 //!     driver reads WHO INDEX TIMES         the type with this index, to be counted from outside
+//!     driver frames                        each frame and message of the standard: the bytes' length
+//!     driver frames WHO INDEX OP TIMES     it is written (0) or read (1), to be counted from outside
 //!     driver keep SEED ROUNDS              the digest of the job `keep`, to be counted from outside
 //!     driver count WHO SHAPE OP            allocations and bytes asked for by one run (where built with --cfg count)
 //!     driver time [OP]                     the least ns of one run, of that operation alone
+//!     driver time frames                   the least ns of writing and reading frames and messages by both
 //!     driver time reads                    the least ns of reading each type by the project and by Qpid Proton
 //!
 //! Operations: 0 the size, 1 the bytes in a fresh vector, 2 the hash (FNV-1a) of the bytes, 3 an untyped value,
@@ -15,6 +18,7 @@
 //! and the value read out of it, 7 to 9 as 0 to 2 of an untyped value that stands ready, 10 the bytes by an encoder that is
 //! kept. Where built with --cfg proton, Qpid Proton reads the bytes too: `proton` into its tree, `walked` visits that tree.
 
+mod frames;
 mod plain;
 mod values;
 
@@ -104,13 +108,13 @@ const READS: [(&str, u32, u32); 16] = [
     ("header, 5 fields", 6, 0),
     ("properties, 13 fields", 7, 0),
     ("12 text keys, six kinds of values", 8, 0),
-    ("map of 1 text key", 9, 1),
-    ("map of 4 text keys", 9, 4),
-    ("map of 8 text keys", 9, 8),
-    ("map of 12 text keys", 9, 12),
-    ("map of 16 text keys", 9, 16),
-    ("map of 32 text keys", 9, 32),
-    ("map of 96 text keys", 9, 96),
+    ("1 text key", 9, 1),
+    ("4 text keys", 9, 4),
+    ("8 text keys", 9, 8),
+    ("12 text keys", 9, 12),
+    ("16 text keys", 9, 16),
+    ("32 text keys", 9, 32),
+    ("96 text keys", 9, 96),
 ];
 
 struct Attach {
@@ -387,11 +391,12 @@ mod proton {
     use std::ffi::{c_char, c_void};
 
     /// The first kind that has nodes inside.
-    const DESCRIBED: i32 = 22;
+    pub const DESCRIBED: i32 = 22;
 
     /// A scalar, or the length and the place of its bytes.
+    #[derive(Clone, Copy)]
     #[repr(C)]
-    struct Atom {
+    pub struct Atom {
         kind: i32,
         value: [u64; 2],
     }
@@ -401,15 +406,16 @@ mod proton {
         fn pn_data_decode(data: *mut c_void, bytes: *const c_char, size: usize) -> isize;
         fn pn_data_free(data: *mut c_void);
         fn pn_data_rewind(data: *mut c_void);
-        fn pn_data_next(data: *mut c_void) -> bool;
-        fn pn_data_type(data: *mut c_void) -> i32;
-        fn pn_data_enter(data: *mut c_void) -> bool;
-        fn pn_data_exit(data: *mut c_void) -> bool;
-        fn pn_data_get_atom(data: *mut c_void) -> Atom;
+        pub fn pn_data_clear(data: *mut c_void);
+        pub fn pn_data_next(data: *mut c_void) -> bool;
+        pub fn pn_data_type(data: *mut c_void) -> i32;
+        pub fn pn_data_enter(data: *mut c_void) -> bool;
+        pub fn pn_data_exit(data: *mut c_void) -> bool;
+        pub fn pn_data_get_atom(data: *mut c_void) -> Atom;
     }
 
     /// Visits each node once and takes its scalar. Texts are not copied.
-    unsafe fn walk(data: *mut c_void) -> u64 {
+    pub unsafe fn walk(data: *mut c_void) -> u64 {
         let mut sum = 0u64;
         unsafe {
             while pn_data_next(data) {
@@ -425,17 +431,36 @@ mod proton {
         sum
     }
 
-    pub fn read(bytes: &[u8], is_walked: bool) -> u64 {
-        unsafe {
-            let data = pn_data(16);
-            let taken = pn_data_decode(data, bytes.as_ptr().cast(), bytes.len());
-            if is_walked {
-                pn_data_rewind(data);
-                std::hint::black_box(walk(data));
-            }
-            pn_data_free(data);
-            u64::from(taken == bytes.len() as isize)
+    /// A tree, and how many bytes of those that it was decoded from were taken.
+    pub struct Tree(pub *mut c_void);
+
+    impl Tree {
+        pub fn new() -> Tree {
+            Tree(unsafe { pn_data(16) })
         }
+
+        pub fn decode(bytes: &[u8]) -> (Tree, usize) {
+            unsafe {
+                let tree = Tree::new();
+                let taken = pn_data_decode(tree.0, bytes.as_ptr().cast(), bytes.len());
+                pn_data_rewind(tree.0);
+                (tree, taken.max(0) as usize)
+            }
+        }
+    }
+
+    impl Drop for Tree {
+        fn drop(&mut self) {
+            unsafe { pn_data_free(self.0) }
+        }
+    }
+
+    pub fn read(bytes: &[u8], is_walked: bool) -> u64 {
+        let (tree, taken) = Tree::decode(bytes);
+        if is_walked {
+            unsafe { std::hint::black_box(walk(tree.0)) };
+        }
+        u64::from(taken == bytes.len())
     }
 }
 
@@ -636,6 +661,15 @@ fn main() {
             assert_eq!(read, number(5), "the maps are not read");
         }
         "keep" => println!("{:016x}", unsafe { amqp_keep(number(2), number(3)) }),
+        "frames" if words.len() < 4 => {
+            for (index, (name, _)) in frames::WORKS.iter().enumerate() {
+                let length = frames::bytes(index).len() as u64;
+                assert_eq!(frames::run("project", index, 0, 1), length, "{name} is not written");
+                assert_eq!(frames::run("project", index, 1, 1), 1, "{name} is not read");
+                println!("{index} {length} {name}");
+            }
+        }
+        "frames" => assert_ne!(frames::run(&words[2], number(3) as usize, number(4) as u32, number(5)), 0),
         "reads" if words.len() < 4 => {
             for (index, (name, ..)) in READS.iter().enumerate() {
                 for who in ["hand", "project"] {
@@ -645,6 +679,11 @@ fn main() {
             }
         }
         "reads" => assert_eq!(reads(&words[2], number(3) as usize, number(4)), number(4)),
+        "time" if words.len() > 2 && words[2] == "frames" => {
+            let all = (0..frames::WORKS.len() * 2).flat_map(|at| [(at / 2, at as u32 % 2, "project"), (at / 2, at as u32 % 2, "proton")]);
+            let row = |(index, op, who)| -> Timed { (format!("{who} {index} {op}"), Box::new(move |times| frames::run(who, index, op, times))) };
+            time(&all.map(row).collect::<Vec<_>>());
+        }
         "time" if words.len() > 2 && words[2] == "reads" => {
             let pairs = (0..READS.len()).flat_map(|index| [(index, "project"), (index, "walked")]);
             let row = |(index, who)| -> Timed { (format!("{who} {index}"), Box::new(move |times| reads(who, index, times))) };

@@ -4,9 +4,10 @@
 
 Needs rt, rustc and ar, and valgrind for the instructions. --library takes a library that stands ready, made by --keep:
 FOLDER/libamqp.a is the project with the kit's heap functions, in one file. --jobs takes a built program tool_jobs, whose
-workloads are counted. --check measures the project's instructions and allocations alone, compares them with the tables of
-README.md, and fails where one is more than three percent above them. --proton measures reading untyped values and types
-beside Qpid Proton alone, and needs libqpid-proton11-dev.
+workloads are counted, as are those of tool_messages in its folder. --check measures the project's instructions and
+allocations alone, compares them with the tables of README.md, and fails where one is more than three percent above them.
+--proton measures reading untyped values and types, and writing and reading frames and messages, beside Qpid Proton alone,
+and needs libqpid-proton11-dev.
 """
 import datetime
 import os
@@ -18,7 +19,7 @@ import tempfile
 HERE = os.path.dirname(os.path.abspath(__file__))
 CRATES = os.path.join(HERE, '..', 'crates')
 # Code that one place calls is in line there: so what writes by a kept encoder has a library of its own.
-LIBRARIES = ['tool_bench', 'tool_reads']
+LIBRARIES = ['tool_bench', 'tool_reads', 'tool_frames']
 CALLS = {0: 'size', 1: 'bytes', 3: 'value', 4: 'text', 5: 'read', 6: 'typed', 7: 'untyped size', 8: 'untyped bytes', 10: 'kept'}
 READ, UNTYPED_SIZE, UNTYPED_BYTES = 5, 7, 8
 # The calls that answer with the length of the bytes, and those that answer with the hash.
@@ -94,11 +95,14 @@ def driver(folder, made, name, more):
     return out
 
 
-def jobs():
-    """The program of the workloads."""
-    crate = os.path.join(CRATES, 'tool_jobs')
+def program(name):
+    """The program of some workloads: tool_jobs, or another one."""
+    built = arg('--jobs')
+    if built:
+        return built if name == 'tool_jobs' else os.path.join(os.path.dirname(os.path.abspath(built)), name)
+    crate = os.path.join(CRATES, name)
     subprocess.run(['rt', 'run'], cwd=crate, check=True, stdin=subprocess.DEVNULL, stdout=subprocess.DEVNULL)
-    return os.path.join(crate, 'out', 'tool_jobs')
+    return os.path.join(crate, 'out', name)
 
 
 def counted(words):
@@ -127,15 +131,16 @@ def reads(plain, who):
     return found
 
 
-def workloads(program, plain):
+def workloads(plain):
     """The instructions of a part of the rounds of each workload, with the seed 1. `keep` writes what `send` writes."""
-    found = {}
+    found, built = {}, {}
     for line in open(os.path.join(HERE, 'workloads.txt')):
-        name, _, *words, rounds = line.split()
+        name, crate, *words, rounds = line.split()
         words = ['1' if word == 'SEED' else word for word in words] + [str(int(rounds) // PART)]
-        found[name, 'instructions'] = counted([program] + words)
+        built[crate] = built.get(crate) or program(crate)
+        found[name, 'instructions'] = counted([built[crate]] + words)
         if name == 'send':
-            assert run([plain, 'keep'] + words[1:]) == run([program] + words), 'keep writes other bytes than send'
+            assert run([plain, 'keep'] + words[1:]) == run([built[crate]] + words), 'keep writes other bytes than send'
             found['keep', 'instructions'] = counted([plain, 'keep'] + words[1:])
     return found
 
@@ -172,7 +177,7 @@ def main():
     wraps = ['-C', 'link-arg=-Wl,--wrap=malloc,--wrap=realloc', '--cfg', 'count']
     counting = driver(folder, made, 'counting', wraps)
     if '--check' in sys.argv:
-        more = {**reads(plain, FROM_SLICE), **maps(plain), **workloads(arg('--jobs') or jobs(), plain)}
+        more = {**reads(plain, FROM_SLICE), **maps(plain), **workloads(plain)}
         sys.exit(check(*answers(plain, counting, ['project']), more))
     names, size, found = answers(plain, counting, WHO)
     if '--no-time' not in sys.argv:
@@ -184,7 +189,7 @@ def main():
         targets(names, found)
         types(plain)
         others('Map', READS, maps(plain))
-        others('Workload', ['instructions'], workloads(arg('--jobs') or jobs(), plain))
+        others('Workload', ['instructions'], workloads(plain))
 
 
 def beside_proton(built):
@@ -201,6 +206,9 @@ def beside_proton(built):
         for line in run([built, 'time', 'reads']).splitlines():
             who, index, least = line.split()
             ns[who, 'type', index] = float(least)
+        for line in run([built, 'time', 'frames']).splitlines():
+            who, index, op, least = line.split()
+            ns[who, index, op] = float(least)
     parts = ['Proton', 'and its tree', 'Proton / project', 'and its tree']
     heading(['Shape', 'instructions: project'] + parts + ['ns: project'] + parts)
     for shape, name in names.items():
@@ -212,6 +220,14 @@ def beside_proton(built):
         index, _, name = line.split(' ', 2)
         who = ['project', 'walked']
         show_beside(name, [instructions([built, 'reads', one, index]) for one in who], [ns.get((one, 'type', index)) for one in who])
+    print()
+    heading(['Work', 'instructions: project', 'Proton', 'Proton / project', 'ns: project', 'Proton', 'Proton / project'])
+    for line in run([built, 'frames']).splitlines():
+        index, _, name = line.split(' ', 2)
+        who = ['project', 'proton']
+        for op, word in enumerate(['written', 'read']):
+            counts = [instructions([built, 'frames', one, index, str(op)]) for one in who]
+            show_beside('%s, %s' % (name, word), counts, [ns.get((one, index, str(op))) for one in who])
 
 
 def show_beside(name, counts, least):

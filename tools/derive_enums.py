@@ -221,23 +221,28 @@ def index(t):
     members = {"reads": f'λ t x. OnEnum (\n        {reads}) t {parts(t, "x")}', "image": f'λ x. {of("image")} {parts(t, "x")}',
                "restorable": f'λ x. {of("restorable")} {parts(t, "x")}', "same": f'λ x y. {of("same")} {parts(t, "x")} {parts(t, "y")}'}
     said = ", ".join({"unit": "unit", "newtype": "newtype"}.get(v.kind) or named(v.fields) for v in t.variants)
-    body = f"        match read::<{t.name}, D, _>(alloc, deserializer, EnumSeed(variants! {{ {said} }}))? {{\n"
+    seed_of = f"EnumSeed(variants! {{ {said} }})"
     nested = lambda at, value: "Either::Other(" * at + value + ")" * at
+    taken = ""
     for at, v in enumerate(t.variants):
         if v.kind == "unit":
-            body += f'            {nested(at, "Either::This(())")} => Ok({t.name}::{v.name}),\n'
+            taken += f'            {nested(at, "Either::This(())")} => {t.name}::{v.name},\n'
         elif v.kind == "newtype":
-            body += f'            {nested(at, "Either::This(value)")} => Ok({t.name}::{v.name}(value)),\n'
+            taken += f'            {nested(at, "Either::This(value)")} => {t.name}::{v.name}(value),\n'
         else:
-            body += f'            {nested(at, "Either::This(values)")} => {{\n{take(v.fields, "values", " " * 16)}                Ok({pattern(v)})\n            }}\n'
-    body += f'            {nested(len(t.variants), "never")} => match never {{}},\n        }}\n'
+            taken += f'            {nested(at, "Either::This(values)")} => {{\n{take(v.fields, "values", " " * 16)}                {pattern(v)}\n            }}\n'
+    taken += f'            {nested(len(t.variants), "never")} => match never {{}},\n'
     out = [serialize(t, cases(arms, type_="Option Tree"), match_self([(pattern(v), written(at, v)) for at, v in enumerate(t.variants)]))] if t.writes else []
     if not t.reads:
         return out
     place_of = lambda v: "tt" if v.kind == "unit" else "v0" if v.kind == "newtype" else f"({chain(held(v))})"
     alias = f"/// The variants of [`{t.name}`], as they are read.\ntype {t.name}Variants = {seeds};\n\n"
-    out.append(alias + record(t, either(values[::-1]), [(" ".join([v.name, *held(v)]), place(at, place_of(v))) for at, v in enumerate(t.variants)]))
-    out.append(deserialize(t, members, body, True))
+    values = either(values[::-1])
+    out.append(alias + record(t, values, [(" ".join([v.name, *held(v)]), place(at, place_of(v))) for at, v in enumerate(t.variants)]))
+    out.append(f"impl FromParts for {t.name} {{\n    fn from_parts(parts: {values}) -> {t.name} {{\n"
+               f"        match parts {{\n{taken}        }}\n    }}\n}}\n")
+    out.append(deserialize(t, members, f"        build::<{t.name}, D, _>(alloc, deserializer, {seed_of})\n", True,
+                           encoded=f"        build_encoded::<{t.name}, _>(alloc, code, input, depth, {seed_of})\n"))
     types = list(dict.fromkeys(f.type for v in t.variants for f in v.fields if f.type not in WORDS))
     return out + ([round_trip(t, "laws::variants_return();", *(f"<{type_} as RoundTrip>::law();" for type_ in types))] if t.round_trips else [])
 

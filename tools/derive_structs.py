@@ -57,13 +57,19 @@ def record(t):
     out = f"{alias}impl Record for {t.name} {{\n{head}    type Values = {values};\n\n    ghost parts = {{ {term} }};\n}}\n"
     if not by_parts(t):
         return out
-    return out + f"\nimpl FromParts for {t.name} {{\n    fn from_parts(parts: {values}) -> {t.name} {{\n" \
-        f"{take(t.fields, 'parts')}        {made(t)}\n    }}\n}}\n"
+    body = f"        {holding(t, 'parts')}\n" if t.encoding == "basic" else f"{take(t.fields, 'parts')}        {made(t)}\n"
+    return out + f"\nimpl FromParts for {t.name} {{\n    fn from_parts(parts: {values}) -> {t.name} {{\n{body}    }}\n}}\n"
 
 
 def by_parts(t):
-    """Whether the value is built from the values of its fields by `from_parts`."""
-    return t.encoding != "basic" and bool(t.fields)
+    """Whether the value is built from the values of its fields by `from_parts`; a single value after a code is not."""
+    return bool(t.fields) and not (t.encoding == "basic" and t.code)
+
+
+def holding(t, value):
+    """The struct of one field that holds the value of a variable."""
+    member = t.fields[0].member
+    return f"{t.name}({value})" if t.is_tuple else f"{t.name} {{ {value} }}" if member == value else f"{t.name} {{ {member}: {value} }}"
 
 
 def made(t):
@@ -220,7 +226,7 @@ def newtype(t):
            "    fn serialize<S: Serializer>(&self, serializer: &mut S) -> Result<S::Ok, S::Error> {\n"
            f"        self.{f.member}.serialize(serializer)\n    }}\n}}\n"] if t.writes else []
     of = lambda name: member(f.type, "Deserialize", name)
-    made = f"{n}(value)" if t.is_tuple else f"{n} {{ {f.member}: value }}" if f.member != "value" else f"{n} {{ value }}"
+    made = holding(t, "value")
     if t.reads:
         out.append(f"impl Deserialize for {n} {{\n" + ghosts({
             "reads": f'λ t x. {of("reads")} t {x}', "image": f'λ x. {of("image")} {x}',

@@ -16,6 +16,8 @@ a map, the capacity of a list. They are run likewise, with `OPTIONAL` allocation
 
 The rows of crates/tool_memory/deep_rows read deep and wide values of about a mebibyte. They must have their results while each
 allocation of more than 16 MiB fails.
+
+Each run must free all that it took, whatever allocation fails.
 """
 
 import os
@@ -37,10 +39,13 @@ OPTIONAL = 65 + 297
 
 
 def run(rows, **refused):
-    """The status, the standard output and the standard error of the program."""
-    shim = os.environ | {"LD_PRELOAD": sys.argv[1]} | refused
+    """The status and the standard output of the program, and how many allocations it made. All must be freed at its end."""
+    shim = os.environ | {"LD_PRELOAD": sys.argv[1], "COUNT": "1"} | refused
     done = subprocess.run([ROOT / "test_rows/out/test_rows"], input=rows, capture_output=True, text=True, env=shim)
-    return done.returncode, done.stdout, done.stderr
+    requests, _, kept = map(int, done.stderr.splitlines()[-1].split())
+    if kept:
+        wrong(f"{kept} bytes are not freed with {refused}")
+    return done.returncode, done.stdout, requests
 
 
 def wrong(words):
@@ -89,7 +94,7 @@ def fail_each(name, optional):
     first, unchanged, lines = 0, 0, expected.splitlines()
     if (status, printed) != (0, expected):
         wrong(f"with no allocation failing the results are wrong (status {status}): {set(printed.splitlines()) - set(lines)}")
-    for number in range(1, int(requests) + 1):
+    for number in range(1, requests + 1):
         status, printed, _ = run(rows, REFUSE=str(number))
         if (status, printed, first) == (1, "", number - 1):
             first = number
@@ -104,7 +109,7 @@ def fail_each(name, optional):
     if unchanged != optional:
         wrong(f"{unchanged} allocations of {name} failed without a change, not {optional}")
     ended = f"{first} ended the program, {unchanged} changed nothing and all others ended one call"
-    print(f"of {requests.strip()} allocations of {name}, each failing in turn, {ended}")
+    print(f"of {requests} allocations of {name}, each failing in turn, {ended}")
 
 
 def main():

@@ -1,47 +1,37 @@
-"""The page of all types, crates/amqp_messaging/README.md."""
+"""The page of all types, crates/amqp_types/README.md."""
 
 from types_table import PARTS
 
-PAGE = """# AMQP's own types of messages
+PAGE = """# AMQP's own types
 
-The crate [amqp_messaging](src/lib.rt) has these types, which `tools/types` writes from [types_table.txt](../../tools/types_table.txt). Each is written and read, after the code of its descriptor or after its name. `!` marks a mandatory field, `[]` one with several values, an `Option<Multiple<T>>`, and `=` the default, which the method `FIELD_or_default` returns for `None`. `Unknown` keeps a value with another descriptor.
+The crate [amqp_types](src/lib.rt) has these types, most from the crates below it, which `tools/types` writes from [types_table.txt](../../tools/types_table.txt). Each is written and read, after the code of its descriptor or after its name. `!` marks a mandatory field, `[]` one with several values, an `Option<Multiple<T>>`, and `=` the default, which the method `FIELD_or_default` returns for `None`. `Unknown` keeps a value with another descriptor. The check proves of each type that it is read back from what is written (`RoundTrip::law`).
 
-[`Message`](src/message/whole.rt) is read from and written as its sections, [`LazyMessage`](src/message/lazy.rt) without decoding the body; `message::sections` splits the bytes. The frames that carry messages are in [amqp_transport](../amqp_transport/src/lib.rt).
-
-## Promises
-
-| Promise | Function (clause, relation) |
-|---|---|
-| The bytes are the parts of a message, and each is read as its section. | `Message::from_slice` (`read`, `IsAround`, `IsBare`, `ReadsPart`, `ReadsBody`) |
-| Otherwise the first section that is malformed, unknown or misplaced determines the error, or that a body or a section is not read. | the same, `LazyMessage::from_slice` (`refused`, `RefusesMessage`) |
-| The sections are written one after another. | `Message::to_vec` (`ensures`, `PutsSection`) |
-| The bare message is written with the bytes that were read. | `LazyMessage::from_slice` (`around`, `bare`), `LazyMessage::to_vec` (`ensures`) |
-| Returns the next section, if it can follow the one before. | `EncodedSections::next_section` (`some`, `none`, `refused`, `kept`) |
-| Each type is read back from what is written. | `RoundTrip::law` (`ensures`) |
-
-That bytes with the parts of a message are read is only tested, by `tool_types`.
+[`Message`](../amqp_messaging/README.md) is read from and written as its sections, `LazyMessage` without decoding the body. [amqp_transport](../amqp_transport/src/lib.rt) has the frames that carry messages, and protocol headers.
 """
 
 
 def page(table):
-    slow = ", ".join(f"`{t.rust}`" for t in table.types.values() if t.kind in ("list", "section", "described") and not t.one_pass)
-    out = PAGE + "\n`from_slice` reads them in [one pass](../../docs/TYPES.md#from-bytes-in-one-pass)" + (f", but {slow}, and what contains one of them" if slow else "") + ".\n"
+    out = PAGE + "\n`from_slice` reads them in [one pass](../../docs/TYPES.md#from-bytes-in-one-pass), but those marked \\*, and what contains one of them.\n"
     for part, name in PARTS.items():
         types = sorted((t for t in table.types.values() if t.part == part), key=by_section)
-        if not types:
-            continue
         out += f"\n## Part {part}: {name}\n"
         described = [t for t in types if t.code]
         if described:
             out += "\n|Type|Code|Section|Fields|\n|---|---|---|---|\n"
         for t in described:
-            out += f"|`{t.rust}`|{t.code}|{t.section}|{fields(table, t)}|\n"
+            out += f"|{name_of(t)}|{t.code}|{t.section}|{fields(table, t)}|\n"
         others = [t for t in types if not t.code]
         if others:
             out += "\n|Type|Section|Values|\n|---|---|---|\n"
             for t in others:
-                out += f"|`{t.rust}`|{t.section}|{values(table, t)}|\n"
-    return out
+                out += f"|{name_of(t)}|{t.section}|{values(table, t)}|\n"
+    rows = ", ".join(f"`{name}` is `{table.rust(name)}`" for name in table.aliases)
+    return f"{out}\n## Other names\n\nOf the types of fields, {rows}.\n"
+
+
+def name_of(t):
+    slow = t.kind in ("list", "section", "described") and not t.one_pass
+    return f"`{t.rust}`" + " \\*" * slow
 
 
 def by_section(t):

@@ -8,6 +8,7 @@ PRIMITIVES = {
     "binary": "ByteBuf", "timestamp": "Timestamp", "uuid": "Uuid", "value": "Value", "values": "Vec<Value>",
     "map:symbol": "OrderedMap<Symbol, Value>", "map:string": "OrderedMap<String, Value>",
     "map:annotation-key": "OrderedMap<AnnotationKey, Value>",
+    "unsettled-map": "OrderedMap<ByteBuf, Option<DeliveryState>>",
 }
 PARTS = {"2": "transport", "3": "messaging", "4": "transactions", "5": "security"}
 

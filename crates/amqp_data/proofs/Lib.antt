@@ -3,3 +3,4 @@ pub mod PairLemmas
 pub mod IndexLemmas
 pub mod DigitLemmas
 pub mod EditLemmas
+pub mod EntryLemmas

@@ -8,6 +8,7 @@ pub mod Index
 pub mod Items
 pub mod Iterates
 pub mod Lends
+pub mod MapEntry
 pub mod MapIters
 pub mod MapLends
 pub mod Pairs

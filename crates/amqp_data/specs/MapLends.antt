@@ -1,6 +1,6 @@
 -- The entries of a map after a mutable borrow of one of its values ends.
-use Rattle.std.specs.Prelude.{◌≡◌, ℕ, Bool, List, [], ◌∷◌, zero, suc, Option, OnSome}
-use Rattle.std.specs.Borrow.{Fml, LendsSo, MutBor, RattleType}
+use Rattle.std.specs.Prelude.{◌≡◌, ℕ, Bool, List, [], ◌∷◌, ◌++◌, zero, suc, Option, OnSome, Result}
+use Rattle.std.specs.Borrow.{Fml, LendsSo, LendsSoOk, MutBor, RattleType}
 use Rattle.std.specs.Map.{set_value}
 use Rattle.amqp_data.specs.Pairs.{entries_of}
 use Rattle.amqp_data.specs.declared.ordered_map.OrderedMap.{OrderedMap}
@@ -28,4 +28,12 @@ module _ (K V : RattleType) (at : ℕ) (map : MutBor (OrderedMap K.Denot V.Denot
   lends_value_at value =
       LendsSo (the_row K V) V map value
       (λ after w. OnSome value (entries_of after ≡ with_value_at (entries_of map.now) at w))
+      (λ after. entries_of after ≡ entries_of map.now)
+
+-- an appended entry has the final value of the reference; without a reference the map is unchanged
+module _ (K V : RattleType) (map : MutBor (OrderedMap K.Denot V.Denot)) where
+  abbrev pub lends_pushed : {E : Type 0} → K.Denot → Result (MutBor V.Denot) E → Fml
+  lends_pushed key value =
+      LendsSoOk (the_row K V) V map value
+      (λ after w. entries_of after ≡ entries_of map.now ++ (key, w) ∷ [])
       (λ after. entries_of after ≡ entries_of map.now)

@@ -40,7 +40,7 @@ pub use format_code::EncodingCodes;
 pub use hexadecimal::{hexadecimal_digit, write_hexadecimal};
 pub use map_index::MapIndex;
 pub use multiple::Multiple;
-pub use ordered_map::{Iter, IterMut, Keys, OrderedMap, Values, ValuesMut};
+pub use ordered_map::{Entry, Iter, IterMut, Keys, OrderedMap, Values, ValuesMut};
 pub use ordered_map_builder::OrderedMapBuilder;
 pub use symbol::{Symbol, SymbolRef};
 pub use timestamp::Timestamp;

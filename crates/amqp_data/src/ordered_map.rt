@@ -10,10 +10,12 @@ ghost use Rattle.amqp_data.specs.Iterates.{GivesItems};
 ghost use Rattle.amqp_data.specs.Pairs.{entries_of, entries_left, insert_pair, AreDistinct};
 
 mod edits;
+mod entry;
 mod lends;
 mod reads;
 
 use crate::Error;
+pub use entry::Entry;
 pub use lends::{IterMut, ValuesMut};
 pub use reads::{Keys, Values};
 use std::alloc::Global;

@@ -9,7 +9,8 @@ ghost use Rattle.amqp_data.specs.Iterates.{GivesItems, GivesRefs, GivesMutRefs};
 ghost use Rattle.amqp_data.specs.Lends.{lends_vec, lends_items};
 
 use crate::Error;
-use std::alloc::Global;
+use std::alloc::{AllocError, Global};
+use std::iter::FromIterator;
 use std::{slice, vec};
 
 /// Elements that are written one after another, with no header of their own.
@@ -139,6 +140,31 @@ impl<T> TransparentVec<T> {
         for item in iter {
             items.push(item)?;
         }
+        Ok(TransparentVec(items))
+    }
+}
+
+/// Collects by the iterator's own `collect`, as `try_collect` does.
+///
+/// # Errors
+/// Returns `AllocError` if an allocation fails. The items collected so far are then dropped.
+///
+/// # Memory
+/// Allocates from `alloc`.
+///
+/// # Example
+/// `iter.collect(alloc)` of an iterator over `true` and `false` gives the transparent vector encoded
+/// as `4142`.
+impl<T: Drop> FromIterator<T> for TransparentVec<T> {
+    type Alloc = Global;
+
+    ghost from_iter_gives = { λ items vector. transparent_items vector ≡ items };
+
+    fn from_iter<I: IntoIterator<Item = T>>(
+        alloc: Global,
+        iter: I,
+    ) -> Result<TransparentVec<T>, AllocError> {
+        let items = Vec::from_iter(alloc, iter)?;
         Ok(TransparentVec(items))
     }
 }

@@ -11,6 +11,7 @@ pub mod MapReadings
 pub mod Chunks
 pub mod FieldLemmas
 pub mod NamedFillings
+mod NextFields
 pub mod OtherCodes
 pub mod MultipleRefused
 pub mod LazyRefused
@@ -18,6 +19,7 @@ pub mod NotArray
 pub mod MultipleReadings
 pub mod DefaultedReadings
 pub mod CompositeReadings
+pub mod EnumReadings
 pub mod DescriptorReadings
 pub mod ReadingLaws
 pub mod ErrorLemmas

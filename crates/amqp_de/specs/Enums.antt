@@ -1,8 +1,9 @@
 -- The trees that an enum is read from: the index of a variant and its value
 -- (AMQP 1.0 part 1, sections 1.6.5, 1.6.22 and 1.6.23).
 use Rattle.std.specs.Prelude.{◌≡◌, ℕ, List, [], ◌∷◌, Option, Some, None, ◌≤◌, ◌+◌, ◌-◌}
-use Rattle.amqp_ser.specs.Tree.{Scalar, uint, Tree, scalar, list, map}
+use Rattle.amqp_ser.specs.Tree.{Scalar, uint, Tree, no_pairs, pair, scalar, list, map}
 use Rattle.amqp_value.specs.Image.{variant_map}
+use Rattle.amqp_decode.specs.Parsed.{FrameReader, insert}
 use Rattle.amqp_de.specs.Values.{elements_in, entries_in}
 use Rattle.amqp_de.specs.Fields.{There}
 use Rattle.amqp_de.specs.declared.enums.variants.Either.{Either}
@@ -88,3 +89,15 @@ SameEither S T (This x) (This y) = S x y
 SameEither S T (Other x) (Other y) = T x y
 SameEither S T (This x) (Other y) = ⊥
 SameEither S T (Other x) (This y) = ⊥
+
+-- The index n and the value d are read as the variant y, and `same` holds for y and each restorable
+-- variant with them.
+abbrev pub VariantReading : {V : Type 0} → (ℕ → Option Tree → V → Type 0) → (V → ℕ) → (V → Option Tree) → (V → Type 0) → (V → V → Type 0) → ℕ → Option Tree → V → Type 0
+VariantReading {V} reads position content restorable same n d y =
+    reads n d y × ((x : V) → restorable x → n ≡ position x → d ≡ content x → same y x)
+
+-- An index and a value fill the bytes, and are read as the variant y.
+abbrev pub VariantFills : {V : Type 0} → (ℕ → Option Tree → V → Type 0) → (V → ℕ) → (V → Option Tree) → (V → Type 0) → (V → V → Type 0) → FrameReader → List ℕ → V → Type 0
+VariantFills reads position content restorable same form bytes y =
+    (n : ℕ) × (t : Tree) × (insert form 1 bytes no_pairs ≡ Some (pair (scalar (uint n)) t no_pairs, []))
+    × VariantReading reads position content restorable same n (Some t) y

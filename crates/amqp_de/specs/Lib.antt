@@ -1,4 +1,4 @@
--- The contracts of public items use all of these modules.
+-- The contracts of public items use all of these modules but NextField.
 pub mod Values
 pub mod Maps
 pub mod EncodedMaps
@@ -19,3 +19,4 @@ pub mod Events
 pub mod Accepted
 pub mod Readings
 pub mod Encoded
+pub mod NextField

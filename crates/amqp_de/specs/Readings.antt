@@ -1,6 +1,6 @@
 -- What is read from the trees of one kind. The laws of the carried types cite these relations, and no
 -- implementation does.
-use Rattle.std.specs.Prelude.{◌≡◌, ◌↔◌, List, map}
+use Rattle.std.specs.Prelude.{◌≡◌, ◌↔◌, List, [], ◌∷◌, map}
 use Rattle.std.specs.List.{AllZip, AllByRecursion}
 use Rattle.amqp_ser.specs.Tree.{Tree, Trees, Scalar, scalar, trees_of}
 use Rattle.amqp_de.specs.Values.{elements_in}
@@ -27,3 +27,8 @@ RestorableIfEach {T} items element restorable = (x : T) → restorable x ↔ All
 -- Two values have the same contents if their elements do, in order.
 abbrev pub SameIfEach : {T E : Type 0} → (T → List E) → (E → E → Type 0) → (T → T → Type 0) → Type 0
 SameIfEach {T} items element same = (x y : T) → same x y ↔ AllZip element (items x) (items y)
+
+-- The first element is read as `x`, and `Others` holds for those after it.
+abbrev pub BeginsWith : {T : Type 0} → (Tree → T → Type 0) → T → (List Tree → Type 0) → List Tree → Type 0
+BeginsWith reads x Others [] = ⊥
+BeginsWith reads x Others (t ∷ ts) = reads t x × Others ts

@@ -1,10 +1,12 @@
 //! Fields that have a default.
 
-ghost use Rattle.std.specs.Prelude.{◌≡◌, ◌∷◌, IfOk, MatchResult};
+ghost use Rattle.std.specs.Prelude.{◌≡◌, ◌∷◌, IfOk, MatchResult, suc};
+ghost use Rattle.amqp_decode.specs.Parsed.{parse};
 ghost use Rattle.amqp_ser.specs.Tree.{scalar, null};
 ghost use Rattle.amqp_de.specs.Answers.{Answers};
 ghost use Rattle.amqp_de.specs.Defaults.{ReadsOr, ReadsDefaulted, RestorableDefaulted};
 ghost use Rattle.amqp_de.specs.Encoded.{Reading, ReadsPrefix};
+ghost use Rattle.amqp_de.specs.NextField.{ReadsNext};
 ghost use Rattle.amqp_de.specs.Present.{required};
 
 use crate::deserialize::Deserialize;
@@ -70,6 +72,31 @@ fn read_or_encoded<V: Deserialize + Copy>(
     }
 }
 
+// Like `read_next` of optional fields: an absent field is the default.
+#[inline(always)]
+fn read_next_or<V: Deserialize + Copy>(
+    alloc: Global,
+    default: V,
+    count: &mut u32,
+    input: &mut &[u8],
+    depth: u16,
+) -> Result<V, GaveUp>
+    ensures { IfOk result (λ x. ReadsNext (Reading (ReadsOr default V.reads) V.image
+        (RestorableDefaulted V.image V.restorable) V.same) default (parse (suc depth))
+        count.old input.old.now count.new input.new.now x) }
+{
+    if *count == 0 {
+        return Ok(default);
+    }
+    let (code, after) = split_byte(*input)?;
+    *count -= 1;
+    *input = after;
+    match read_or_encoded(alloc, default, code, input, depth) {
+        Ok(value) => Ok(value),
+        Err(error) => Err(error),
+    }
+}
+
 #[tactic(auto, unfolding(crate::specs::Defaults::ReadsDefaulted))]
 impl<V: Deserialize + Copy, R: FieldSeeds> FieldSeeds for Defaulted<V, R> {
     type Values = FieldValues<V, R::Values>;
@@ -126,17 +153,10 @@ impl<V: Deserialize + Copy, R: FieldSeeds> FieldSeeds for Defaulted<V, R> {
         body: &[u8],
         depth: u16,
     ) -> Result<FieldValues<V, R::Values>, GaveUp> {
-        if count == 0 {
-            let others = self.rest.read_fields(alloc, 0, body, depth)?;
-            return Ok(FieldValues {
-                value: self.default,
-                rest: others,
-            });
-        }
-        let (code, after) = split_byte(body)?;
-        let mut rest = after;
-        let value = read_or_encoded(alloc, self.default, code, &mut rest, depth)?;
-        let others = self.rest.read_fields(alloc, count - 1, rest, depth)?;
+        let mut left = count;
+        let mut rest = body;
+        let value = read_next_or(alloc, self.default, &mut left, &mut rest, depth)?;
+        let others = self.rest.read_fields(alloc, left, rest, depth)?;
         Ok(FieldValues {
             value,
             rest: others,

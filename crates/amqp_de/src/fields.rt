@@ -1,14 +1,15 @@
 //! The fields of a struct that are read in one call.
 
-ghost use Rattle.std.specs.Prelude.{◌≡◌, ℕ, List, [], ◌∷◌, Bool, true, MatchResult, IfOk, IfSome, Some, suc};
+ghost use Rattle.std.specs.Prelude.{◌≡◌, ℕ, List, [], ◌∷◌, Bool, true, MatchResult, IfOk, IfSome, None, Some, suc};
 ghost use Rattle.amqp_decode.specs.Parsed.{parse};
-ghost use Rattle.amqp_de.specs.Encoded.{FieldsFill};
+ghost use Rattle.amqp_de.specs.Encoded.{FieldsFill, Reading};
+ghost use Rattle.amqp_de.specs.NextField.{ReadsNext};
 ghost use Rattle.amqp_de.specs.EncodedMaps.{NamedFieldsFill};
 ghost use Rattle.amqp_ser.specs.Tree.{Tree, scalar, string};
 ghost use Rattle.amqp_de.specs.Answers.{Answers, Restores};
 ghost use Rattle.amqp_de.specs.Fields.{FieldSource, by_position, by_name, ReadsRequired, ReadsOptional, NoMoreFields};
 ghost use Rattle.amqp_de.specs.Present.{EndsEarly, required, optional, present_fields, distinct_names};
-ghost use Rattle.amqp_de.specs.Reads.{Always, RestorableOption, SameOption};
+ghost use Rattle.amqp_de.specs.Reads.{Always, ReadsOption, image_option, RestorableOption, SameOption};
 
 use crate::deserialize::Deserialize;
 use crate::deserialize_error::DeserializeError;
@@ -161,6 +162,33 @@ fn split_name<'a>(name: &str, count: u32, body: &'a [u8]) -> Option<&'a [u8]>
         return None;
     };
     if *text == *name { Some(rest) } else { None }
+}
+
+// Reads the first of `count` encoded values as an optional field, and takes it off `count`. Without a
+// value the field is absent. So `read_fields` has one call for the other fields, whether this one is
+// there or not, and the code of a struct grows with its fields. The compiler drops `inline(always)`
+// from a function that grows very large.
+#[inline(always)]
+fn read_next<V: Deserialize>(
+    alloc: Global,
+    count: &mut u32,
+    input: &mut &[u8],
+    depth: u16,
+) -> Result<Option<V>, GaveUp>
+    ensures { IfOk result (λ x. ReadsNext (Reading (ReadsOption V.reads) (image_option V.image)
+        (RestorableOption V.image V.restorable) (SameOption V.same)) None (parse (suc depth))
+        count.old input.old.now count.new input.new.now x) }
+{
+    if *count == 0 {
+        return Ok(None);
+    }
+    let (code, after) = split_byte(*input)?;
+    *count -= 1;
+    *input = after;
+    match Option::<V>::read_encoded(alloc, code, input, depth) {
+        Ok(value) => Ok(value),
+        Err(error) => Err(error),
+    }
 }
 
 #[tactic(auto, unfolding(crate::specs::Fields::NoMoreFields))]
@@ -396,17 +424,10 @@ impl<V: Deserialize, R: FieldSeeds> FieldSeeds for Optional<V, R> {
         body: &[u8],
         depth: u16,
     ) -> Result<FieldValues<Option<V>, R::Values>, GaveUp> {
-        if count == 0 {
-            let others = self.rest.read_fields(alloc, 0, body, depth)?;
-            return Ok(FieldValues {
-                value: None,
-                rest: others,
-            });
-        }
-        let (code, after) = split_byte(body)?;
-        let mut rest = after;
-        let value = Option::<V>::read_encoded(alloc, code, &mut rest, depth)?;
-        let others = self.rest.read_fields(alloc, count - 1, rest, depth)?;
+        let mut left = count;
+        let mut rest = body;
+        let value = read_next::<V>(alloc, &mut left, &mut rest, depth)?;
+        let others = self.rest.read_fields(alloc, left, rest, depth)?;
         Ok(FieldValues {
             value,
             rest: others,

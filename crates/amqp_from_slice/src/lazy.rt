@@ -6,6 +6,7 @@ ghost use Rattle.amqp_ser.specs.Tree.{Tree};
 ghost use Rattle.amqp_decode.specs.Faults.{DecodeFails};
 ghost use Rattle.amqp_decode.specs.Spells.{Spells};
 ghost use Rattle.amqp_de.specs.Answers.{Answers};
+ghost use Rattle.amqp_from_value.specs.Refusals.{IsOfReading};
 ghost use Rattle.amqp_from_slice.specs.ReadsSpelled.{ReadsSpelled};
 
 use crate::read::from_slice;
@@ -36,6 +37,7 @@ impl ReadLazy for LazyValue {
             MatchResult result (λ y. T.same y x) (λ e. e ≡ OutOfMemory) }
         ensures fault { ((t : Tree) → ¬ Spells 256 self.now t) →
             IfErr result (DecodeFails 256 self.now) }
+        ensures kind { IfErr result (λ e. (t : Tree) → Spells 256 self.now t → IsOfReading e) }
     {
         from_slice(alloc, self.as_slice())
     }

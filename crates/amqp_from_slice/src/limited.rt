@@ -6,6 +6,7 @@ ghost use Rattle.amqp_ser.specs.Tree.{Tree};
 ghost use Rattle.amqp_value.specs.TreeOf.{tree_of};
 ghost use Rattle.amqp_decode.specs.Spells.{Spells};
 ghost use Rattle.amqp_de.specs.Answers.{Answers};
+ghost use Rattle.amqp_from_value.specs.Refusals.{IsOfReading};
 ghost use Rattle.amqp_from_slice.specs.Limited.{IsAllowed, ReadsAllowed, levels};
 
 use amqp_data::Error;
@@ -53,12 +54,15 @@ pub fn from_slice_limited<T: Deserialize>(
         (t : Tree) → Spells 256 bytes.now t → IsAllowed limits bytes.now t) }
     ensures law { (x : T) → T.restorable x → IsAllowed limits bytes.now (T.image x) →
         MatchResult result (λ y. T.same y x) (λ e. e ≡ OutOfMemory) }
+    ensures kind { IfErr result (λ e. (t : Tree) → Spells 256 bytes.now t → IsOfReading e) }
 {
     match decode_limited(alloc, bytes, limits) {
         Ok(value) => match from_value::<T>(alloc, value) {
             Ok(read) => Ok(read),
             Err(error) => Err(error),
         },
+        Err(Error::OutOfMemory) => Err(Error::OutOfMemory),
+        Err(Error::TooLong) => Err(Error::TooLong),
         Err(error) => Err(error),
     }
 }

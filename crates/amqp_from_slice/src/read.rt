@@ -7,6 +7,7 @@ ghost use Rattle.amqp_decode.specs.Faults.{DecodeFails};
 ghost use Rattle.amqp_decode.specs.Spells.{Spells};
 ghost use Rattle.amqp_de.specs.Answers.{Answers};
 ghost use Rattle.amqp_de.specs.Encoded.{Reading};
+ghost use Rattle.amqp_from_value.specs.Refusals.{IsOfReading};
 ghost use Rattle.amqp_from_slice.specs.ReadsSpelled.{ReadsSpelled};
 
 use amqp_data::Error;
@@ -42,6 +43,7 @@ pub fn from_slice<T: Deserialize>(alloc: Global, bytes: &[u8]) -> Result<T, Erro
         MatchResult result (λ y. T.same y x) (λ e. e ≡ OutOfMemory) }
     ensures fault { ((t : Tree) → ¬ Spells 256 bytes.now t) →
         IfErr result (DecodeFails 256 bytes.now) }
+    ensures kind { IfErr result (λ e. (t : Tree) → Spells 256 bytes.now t → IsOfReading e) }
 {
     match read_at_once::<T>(alloc, bytes) {
         Some(read) => Ok(read),
@@ -73,12 +75,14 @@ fn read_by_value<T: Deserialize>(alloc: Global, bytes: &[u8]) -> Result<T, Error
         MatchResult result (λ y. T.same y x) (λ e. e ≡ OutOfMemory) }
     ensures fault { ((t : Tree) → ¬ Spells 256 bytes.now t) →
         IfErr result (DecodeFails 256 bytes.now) }
+    ensures kind { IfErr result (λ e. (t : Tree) → Spells 256 bytes.now t → IsOfReading e) }
 {
     match decode_value(alloc, bytes) {
         Ok(value) => match from_value::<T>(alloc, value) {
             Ok(read) => Ok(read),
             Err(error) => Err(error),
         },
+        Err(Error::OutOfMemory) => Err(Error::OutOfMemory),
         Err(error) => Err(error),
     }
 }

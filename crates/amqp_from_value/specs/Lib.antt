@@ -1,3 +1,4 @@
--- Contracts of public items depend on both of these.
+-- Contracts of public items depend on all of these.
 pub mod DeserializerTrees
 pub mod Access
+pub mod Refusals

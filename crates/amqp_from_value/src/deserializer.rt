@@ -3,9 +3,11 @@
 ghost use Rattle.std.specs.Prelude.{◌≡◌, map};
 ghost use Rattle.amqp_data.specs.declared.error.Error.TheVariants.{OutOfMemory};
 ghost use Rattle.amqp_data.specs.Pairs.{entries_of};
+ghost use Rattle.amqp_ser.specs.Tree.{Tree};
 ghost use Rattle.amqp_value.specs.TreeOf.{tree_of};
 ghost use Rattle.amqp_value.specs.ValueKind.{kind_of};
-ghost use Rattle.amqp_de.specs.Answers.{Answers, Restores};
+ghost use Rattle.amqp_de.specs.Answers.{TakesNamed, TakesNext, TakesPair};
+ghost use Rattle.amqp_de.specs.ContentTree.{content_tree};
 
 use crate::key_of_name::find;
 use amqp_data::{Error, OrderedMap};
@@ -41,7 +43,7 @@ pub struct Entries {
 }
 
 impl Deserializer {
-    ghost use Rattle.amqp_from_value.specs.DeserializerTrees.{value_tree};
+    ghost use Rattle.amqp_from_value.specs.DeserializerTrees.{value_tree, elements_left, unread_entries};
 
     /// Returns a deserializer of the value.
     ///
@@ -59,85 +61,21 @@ impl Deserializer {
     {
         self.value.kind()
     }
-}
 
-impl Elements {
-    ghost use Rattle.amqp_from_value.specs.DeserializerTrees.{elements_left};
-
-    /// Returns the elements of a list or an array.
-    ///
-    /// # Memory
-    /// None.
-    pub fn new(alloc: Global, values: Vec<Value>) -> Elements
-        ensures { elements_left result ≡ map tree_of values.items }
+    // Opens the first level of the value.
+    pub(crate) fn open_as<D: OverValue>(self) -> Content<D, Elements, Entries>
+        ensures { content_tree D.tree elements_left unread_entries result ≡ value_tree self }
     {
-        Elements {
-            alloc,
-            values: values.into_iter(),
-        }
-    }
-}
-
-impl Entries {
-    ghost use Rattle.amqp_from_value.specs.DeserializerTrees.{unread_entries};
-
-    /// Returns the entries of a map.
-    ///
-    /// # Memory
-    /// None.
-    pub fn new(alloc: Global, pairs: OrderedMap<Value, Value>) -> Entries
-        ensures { unread_entries result ≡ map (λ p. (tree_of p.0, tree_of p.1)) (entries_of pairs) }
-    {
-        Entries {
-            alloc,
-            pairs: VecDeque::from_vec(pairs.into_inner()),
-        }
-    }
-}
-
-impl de::Deserializer for Deserializer {
-    ghost use Rattle.amqp_from_value.specs.DeserializerTrees.{value_tree, elements_left, unread_entries};
-
-    type Error = Error;
-
-    type Elements = Elements;
-
-    type Entries = Entries;
-
-    ghost value = { value_tree };
-
-    ghost items = { elements_left };
-
-    ghost pairs = { unread_entries };
-
-    fn alloc(&self) -> Global {
-        self.alloc
-    }
-
-    #[inline(always)]
-    fn is_null(&self) -> bool {
-        matches!(&self.value, Value::Null)
-    }
-
-    fn is_index(&self) -> bool {
-        matches!(&self.value, Value::Uint(_) | Value::Symbol(_))
-    }
-
-    fn is_array(&self) -> bool {
-        matches!(&self.value, Value::Array(_))
-    }
-
-    fn open(self) -> Content<Deserializer, Elements, Entries> {
         let Deserializer { alloc, value } = self;
         match value {
             Value::Described(described) => {
                 let described = Box::into_inner(described);
                 Content::Described(
                     described.descriptor,
-                    Deserializer {
+                    D::over(Deserializer {
                         alloc,
                         value: described.value,
-                    },
+                    }),
                 )
             }
             Value::Null => Content::Null,
@@ -175,6 +113,151 @@ impl de::Deserializer for Deserializer {
             }),
         }
     }
+}
+
+// A deserializer that is made from one of a `Value`.
+pub(crate) trait OverValue: Sized + Drop {
+    ghost use Rattle.amqp_from_value.specs.DeserializerTrees.{value_tree};
+
+    // The tree of the value.
+    ghost tree: { Self → Tree };
+
+    // Returns the deserializer of the same value.
+    fn over(inner: Deserializer) -> Self
+        ensures { tree result ≡ value_tree inner };
+}
+
+impl OverValue for Deserializer {
+    ghost use Rattle.amqp_from_value.specs.DeserializerTrees.{value_tree};
+
+    ghost tree = { value_tree };
+
+    #[inline(always)]
+    fn over(inner: Deserializer) -> Deserializer {
+        inner
+    }
+}
+
+impl Elements {
+    ghost use Rattle.amqp_from_value.specs.DeserializerTrees.{elements_left};
+
+    /// Returns the elements of a list or an array.
+    ///
+    /// # Memory
+    /// None.
+    pub fn new(alloc: Global, values: Vec<Value>) -> Elements
+        ensures { elements_left result ≡ map tree_of values.items }
+    {
+        Elements {
+            alloc,
+            values: values.into_iter(),
+        }
+    }
+
+    // Takes the next element; returns `None` after the last.
+    #[inline(always)]
+    pub(crate) fn next_as<D: OverValue>(&mut self) -> Option<D>
+        ensures { TakesNext D.tree (elements_left self.old) (elements_left self.new) result }
+    {
+        match self.values.next() {
+            Some(value) => Some(D::over(Deserializer {
+                alloc: self.alloc,
+                value,
+            })),
+            None => None,
+        }
+    }
+}
+
+impl Entries {
+    ghost use Rattle.amqp_from_value.specs.DeserializerTrees.{unread_entries};
+
+    /// Returns the entries of a map.
+    ///
+    /// # Memory
+    /// None.
+    pub fn new(alloc: Global, pairs: OrderedMap<Value, Value>) -> Entries
+        ensures { unread_entries result ≡ map (λ p. (tree_of p.0, tree_of p.1)) (entries_of pairs) }
+    {
+        Entries {
+            alloc,
+            pairs: VecDeque::from_vec(pairs.into_inner()),
+        }
+    }
+
+    // Takes the next key and value; returns `None` after the last.
+    #[inline(always)]
+    pub(crate) fn next_as<D: OverValue>(&mut self) -> Option<(D, D)>
+        ensures { TakesPair D.tree (unread_entries self.old) (unread_entries self.new) result }
+    {
+        match self.pairs.pop_front() {
+            Some((key, value)) => Some((
+                D::over(Deserializer {
+                    alloc: self.alloc,
+                    value: key,
+                }),
+                D::over(Deserializer {
+                    alloc: self.alloc,
+                    value,
+                }),
+            )),
+            None => None,
+        }
+    }
+
+    // Takes the value of the first key that is the string `name`; returns `None` if there is no such
+    // key.
+    pub(crate) fn take_named_as<D: OverValue>(&mut self, name: &str) -> Option<D>
+        ensures { TakesNamed D.tree name.now (unread_entries self.old) (unread_entries self.new) result }
+    {
+        match find(&self.pairs, name) {
+            Some(at) => match self.pairs.remove(at) {
+                Some((_, value)) => Some(D::over(Deserializer {
+                    alloc: self.alloc,
+                    value,
+                })),
+                None => None,
+            },
+            None => None,
+        }
+    }
+}
+
+impl de::Deserializer for Deserializer {
+    ghost use Rattle.amqp_from_value.specs.DeserializerTrees.{value_tree, elements_left, unread_entries};
+
+    type Error = Error;
+
+    type Elements = Elements;
+
+    type Entries = Entries;
+
+    ghost value = { value_tree };
+
+    ghost items = { elements_left };
+
+    ghost pairs = { unread_entries };
+
+    fn alloc(&self) -> Global {
+        self.alloc
+    }
+
+    #[inline(always)]
+    fn is_null(&self) -> bool {
+        matches!(&self.value, Value::Null)
+    }
+
+    fn is_index(&self) -> bool {
+        matches!(&self.value, Value::Uint(_) | Value::Symbol(_))
+    }
+
+    fn is_array(&self) -> bool {
+        matches!(&self.value, Value::Array(_))
+    }
+
+    fn open(self) -> Content<Deserializer, Elements, Entries> {
+        self.open_as()
+    }
 
     fn into_value(self) -> Value {
         let Deserializer { value, .. } = self;
@@ -183,43 +266,16 @@ impl de::Deserializer for Deserializer {
 
     #[inline(always)]
     fn next_element(elements: &mut Elements) -> Option<Deserializer> {
-        match elements.values.next() {
-            Some(value) => Some(Deserializer {
-                alloc: elements.alloc,
-                value,
-            }),
-            None => None,
-        }
+        elements.next_as()
     }
 
     #[inline(always)]
     fn next_pair(entries: &mut Entries) -> Option<(Deserializer, Deserializer)> {
-        match entries.pairs.pop_front() {
-            Some((key, value)) => Some((
-                Deserializer {
-                    alloc: entries.alloc,
-                    value: key,
-                },
-                Deserializer {
-                    alloc: entries.alloc,
-                    value,
-                },
-            )),
-            None => None,
-        }
+        entries.next_as()
     }
 
     fn take_named(entries: &mut Entries, name: &str) -> Option<Deserializer> {
-        match find(&entries.pairs, name) {
-            Some(at) => match entries.pairs.remove(at) {
-                Some((_, value)) => Some(Deserializer {
-                    alloc: entries.alloc,
-                    value,
-                }),
-                None => None,
-            },
-            None => None,
-        }
+        entries.take_named_as(name)
     }
 
     #[inline(always)]
@@ -286,24 +342,4 @@ impl de::Deserializer for Deserializer {
     fn elements_left(elements: &Elements) -> usize {
         elements.values.len()
     }
-}
-
-/// Reads a `T` from the value.
-///
-/// # Errors
-/// Returns `Error::OutOfMemory` if an allocation fails. Otherwise returns an error if and only if
-/// the value cannot be read as a `T`; the implementation of `T` determines which. The value is
-/// dropped.
-///
-/// # Memory
-/// Allocates from `alloc` what the implementation of `T` allocates.
-///
-/// # Example
-/// `Value::Uint(1)` is read as the `u32` 1, and gives `InvalidValue` as a `u64`.
-pub fn from_value<T: Deserialize>(alloc: Global, value: Value) -> Result<T, Error>
-    ensures read { Answers (λ e. e ≡ OutOfMemory) (T.reads (tree_of value)) result }
-    ensures law { Restores T.image T.restorable T.same
-        (λ e. e ≡ OutOfMemory) (tree_of value) result }
-{
-    T::deserialize(alloc, Deserializer::new(alloc, value))
 }

@@ -9,8 +9,11 @@ mod deserializer;
 mod key_of_name;
 mod located;
 mod read_error;
+mod reading;
+mod refusal;
 
 pub use access::{MapAccess, SeqAccess, VariantAccess};
-pub use deserializer::{Deserializer, Elements, Entries, from_value};
+pub use deserializer::{Deserializer, Elements, Entries};
 pub use located::from_value_located;
 pub use read_error::ReadError;
+pub use reading::from_value;

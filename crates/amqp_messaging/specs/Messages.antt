@@ -1,8 +1,9 @@
 -- Messages that are read and written: their parts as sections (AMQP 1.0 part 3, section 3.2).
-use Rattle.std.specs.Prelude.{◌≡◌, ◌⊎◌, ℕ, List, [], ◌∷◌, ◌++◌, Option, Some, None}
+use Rattle.std.specs.Prelude.{◌≡◌, ◌⊎◌, ℕ, List, [], ◌∷◌, ◌++◌, Option, Some, None, Err}
 use Rattle.amqp_data.specs.Items.{transparent_items}
 use Rattle.amqp_data.specs.declared.error.Error.{Error}
 use Rattle.amqp_ser.specs.Encoding.{encoding}
+use Rattle.amqp_ser.specs.SizeAndBytes.{AreBytesOf}
 use Rattle.amqp_ser.specs.Tree.{Tree}
 use Rattle.amqp_from_slice.specs.ReadsSpelled.{ReadsSpelled}
 use Rattle.amqp_messaging.specs.Parts.{RefusesParts}
@@ -60,3 +61,18 @@ abbrev pub PutsBare : {P A B : Type 0} → (P → Option Tree) → (A → Option
     → List ℕ → List ℕ → Option P → Option A → B → Type 0
 PutsBare f g h s all x y b =
     (t u : List ℕ) × PutsSection f s t x × PutsSection g t u y × PutsTree (h b) u all
+
+-- Why a section is not written, if there is one: `to_vec` refuses it, or an allocation failed.
+abbrev pub RefusesSection : {T : Type 0} → (T → Option Tree) → Option T → Error → Type 0
+RefusesSection f None e = ⊥
+RefusesSection f (Some x) e = AreBytesOf (f x) (Err e)
+
+-- Why the sections before a bare message are not written.
+abbrev pub RefusesFront : {H D M : Type 0} → (H → Option Tree) → (D → Option Tree) → (M → Option Tree)
+    → Option H → Option D → Option M → Error → Type 0
+RefusesFront f g h x y z e = RefusesSection f x e ⊎ RefusesSection g y e ⊎ RefusesSection h z e
+
+-- Why a bare message is not written.
+abbrev pub RefusesBare : {P A B : Type 0} → (P → Option Tree) → (A → Option Tree) → (B → Option Tree)
+    → Option P → Option A → B → Error → Type 0
+RefusesBare f g h x y b e = RefusesSection f x e ⊎ RefusesSection g y e ⊎ AreBytesOf (h b) (Err e)

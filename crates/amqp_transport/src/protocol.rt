@@ -1,7 +1,8 @@
 //! Protocol headers.
 
-ghost use Rattle.std.specs.Prelude.{◌≡◌, IfSome};
+ghost use Rattle.std.specs.Prelude.{◌≡◌, ◌≢◌, ℕ, List, IfSome, IfNone};
 ghost use Rattle.amqp_transport.specs.Frames.{protocol_bytes};
+ghost use Rattle.amqp_transport.specs.declared.protocol.Protocol.{Protocol};
 
 /// The protocol that a protocol header announces.
 #[derive(Debug, Clone, Copy, PartialEq, Eq)]
@@ -47,7 +48,8 @@ impl ProtocolHeader {
     /// # Example
     /// `414d515000010000` is the header of AMQP 1.0.0. `414d515001010000` is none.
     pub fn from_bytes(bytes: [u8; 8]) -> Option<ProtocolHeader>
-        ensures { IfSome result (λ h. bytes ≡ protocol_bytes h.protocol h.version) }
+        ensures some { IfSome result (λ h. bytes ≡ protocol_bytes h.protocol h.version) }
+        ensures none { IfNone result ((p : Protocol) (version : List ℕ) → bytes ≢ protocol_bytes p version) }
     {
         let [b'A', b'M', b'Q', b'P', id, major, minor, revision] = bytes else {
             return None;

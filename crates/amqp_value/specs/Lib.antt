@@ -10,6 +10,7 @@ pub mod Converts
 pub mod FormatCode
 pub mod Order
 pub mod ComesBack
+pub mod Conversions
 pub mod Sound
 pub mod MapBuilder
 pub mod Places

@@ -25,7 +25,9 @@ use amqp_data::{
     Timestamp, Uuid,
 };
 use amqp_ser::Serialize;
-pub use conversions::{elements_have_one_format_code, scalars_come_back};
+pub use conversions::{
+    elements_convert, elements_have_one_format_code, entries_convert, scalars_come_back,
+};
 pub use order::{
     bits_compare_as_unsigned_numbers, described_values_come_before_null, equal_values_hash_alike,
     hashes_tell_keys_apart, maps_go_by_pairs_in_order, order_agrees_with_equality,

@@ -1,7 +1,7 @@
 //! The sections of a message as user-defined types (AMQP 1.0 part 3, section 3.2).
 //!
 //! For newcomers: shows how to implement `Serialize` for a described list and for an enum of
-//! described values. The `example_composites` crate has the sections with all their fields.
+//! described values. The `amqp_messaging` crate has the sections with all their fields.
 
 ghost use Rattle.example_callers.specs.Sections.{of_header, of_properties, of_section};
 

@@ -37,10 +37,11 @@ pub struct Tag(pub ByteBuf);
 // amqp: the impls below are written by tools/derive from the annotations above
 use serde_amqp::derive::{
     Composite, Content, DataVariant, Deserialize, DeserializeError, DeserializeSeed, Deserializer,
-    Either, EnumSeed, FieldSeeds, FieldValues, GaveUp, Global, ListSeed, MapKey, Never, Optional,
-    PhantomData, Record, Required, RoundTrip, RoundTripComposite, Serialize, SerializeCompounds,
-    SerializeScalars, Serializer, TypeSeed, UnitVariant, VariantOf, fields, laws, named, read,
-    read_composite_type, read_composite_type_encoded, read_parts_encoded, variants,
+    Either, EnumSeed, FieldSeeds, FieldValues, FromParts, GaveUp, Global, ListSeed, MapKey, Never,
+    Optional, PhantomData, Record, Required, RoundTrip, RoundTripComposite, Serialize,
+    SerializeCompounds, SerializeScalars, Serializer, TypeSeed, UnitVariant, VariantOf, build,
+    build_encoded, fields, laws, named, read, read_composite_type, read_composite_type_encoded,
+    read_parts_encoded, variants,
 };
 
 impl Serialize for Address {
@@ -182,6 +183,43 @@ impl Record for Shape {
     ghost parts = { λ x. elim x as (λ _. _) [ variant.Point ↦ This tt | variant.Circle v0 ↦ Other (This v0) | variant.Box v0 v1 ↦ Other (Other (This (v0 ▸ v1 ▸ tt))) | variant.Label v0 v1 ↦ Other (Other (Other (This (v0 ▸ v1 ▸ tt)))) ] };
 }
 
+impl FromParts for Shape {
+    fn from_parts(
+        parts: Either<
+            (),
+            Either<
+                u32,
+                Either<
+                    <Required<u16, Required<u16, ()>> as FieldSeeds>::Values,
+                    Either<<Required<String, Optional<Symbol, ()>> as FieldSeeds>::Values, Never>,
+                >,
+            >,
+        >,
+    ) -> Shape {
+        match parts {
+            Either::This(()) => Shape::Point,
+            Either::Other(Either::This(value)) => Shape::Circle(value),
+            Either::Other(Either::Other(Either::This(values))) => {
+                let FieldValues { value: part0, rest } = values;
+                let FieldValues {
+                    value: part1,
+                    rest: (),
+                } = rest;
+                Shape::Box(part0, part1)
+            }
+            Either::Other(Either::Other(Either::Other(Either::This(values)))) => {
+                let FieldValues { value: text, rest } = values;
+                let FieldValues {
+                    value: colour,
+                    rest: (),
+                } = rest;
+                Shape::Label { text, colour }
+            }
+            Either::Other(Either::Other(Either::Other(Either::Other(never)))) => match never {},
+        }
+    }
+}
+
 impl Deserialize for Shape {
     ghost use Rattle.std.specs.Prelude.{codes};
     ghost use Rattle.serde_amqp.specs.Derive.{OnFields, ReadsRequired, ReadsOptional, NoMoreFields, OnEnum, IsUnitVariant, IsDataVariant, IsNoVariant};
@@ -206,33 +244,30 @@ impl Deserialize for Shape {
     ghost same = { λ x y. ⟦<EnumSeed<ShapeVariants> as DeserializeSeed>⟧.same (⟦<Shape as Record>⟧.parts x) (⟦<Shape as Record>⟧.parts y) };
 
     fn deserialize<D: Deserializer>(alloc: Global, deserializer: D) -> Result<Shape, D::Error> {
-        match read::<Shape, D, _>(
+        build::<Shape, D, _>(
             alloc,
             deserializer,
             EnumSeed(
                 variants! { unit, newtype, named! { "0", "1" }, named! { "text", "colour"? } },
             ),
-        )? {
-            Either::This(()) => Ok(Shape::Point),
-            Either::Other(Either::This(value)) => Ok(Shape::Circle(value)),
-            Either::Other(Either::Other(Either::This(values))) => {
-                let FieldValues { value: part0, rest } = values;
-                let FieldValues {
-                    value: part1,
-                    rest: (),
-                } = rest;
-                Ok(Shape::Box(part0, part1))
-            }
-            Either::Other(Either::Other(Either::Other(Either::This(values)))) => {
-                let FieldValues { value: text, rest } = values;
-                let FieldValues {
-                    value: colour,
-                    rest: (),
-                } = rest;
-                Ok(Shape::Label { text, colour })
-            }
-            Either::Other(Either::Other(Either::Other(Either::Other(never)))) => match never {},
-        }
+        )
+    }
+
+    fn read_encoded(
+        alloc: Global,
+        code: u8,
+        input: &mut &[u8],
+        depth: u16,
+    ) -> Result<Shape, GaveUp> {
+        build_encoded::<Shape, _>(
+            alloc,
+            code,
+            input,
+            depth,
+            EnumSeed(
+                variants! { unit, newtype, named! { "0", "1" }, named! { "text", "colour"? } },
+            ),
+        )
     }
 }
 

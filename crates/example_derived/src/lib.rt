@@ -24,4 +24,4 @@ pub use outcome::{Accepted, Modified, Outcome};
 pub use parcel::{Envelope, Label, Parcel, Receipt};
 pub use report::{Position, Report};
 pub use restricted::{Durability, Expiry, Role, Unit};
-pub use stall::{Price, Stall};
+pub use stall::{Colour, Price, Stall};

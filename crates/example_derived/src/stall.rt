@@ -1,7 +1,8 @@
-//! A map that is read after its code or its name, and a struct of one field after a code.
+//! A map that is read after its code or its name; and structs of one field after a code, and after a
+//! name.
 
 use serde_amqp::Value;
-use serde_amqp::primitives::Array;
+use serde_amqp::primitives::{Array, Symbol};
 use std::collections::BTreeMap;
 
 /// A stall of a market: a map that is written after its code, and read after its code or its name.
@@ -19,13 +20,18 @@ pub struct Stall {
 #[derive(Debug, PartialEq, Drop)]
 pub struct Price(pub u64);
 
+/// A colour: a symbol described by a name.
+// amqp: encoding = "basic", name = "shop:colour"
+#[derive(Debug, PartialEq, Drop)]
+pub struct Colour(pub Symbol);
+
 // amqp: the impls below are written by tools/derive from the annotations above
 use serde_amqp::derive::{
     Composite, Deserialize, DeserializeSeed, Deserializer, FieldSeeds, FieldValues, FromParts,
-    GaveUp, Global, MapOf, NamedRecord, Optional, PhantomData, Record, Required, RoundTrip,
+    GaveUp, Global, MapOf, Name, NamedRecord, Optional, PhantomData, Record, Required, RoundTrip,
     RoundTripComposite, Serialize, SerializeCompounds, Serializer, TypeSeed, build_fields_map,
-    build_fields_map_encoded, fields, laws, named, read_composite, read_composite_encoded,
-    read_composite_type, read_composite_type_encoded,
+    build_fields_map_encoded, build_named, build_named_encoded, fields, laws, named,
+    read_composite, read_composite_encoded, read_composite_type, read_composite_type_encoded,
 };
 
 impl Serialize for Stall {
@@ -248,6 +254,74 @@ impl Deserialize for Price {
 impl RoundTrip for Price {
     fn law() {
         <u64 as RoundTrip>::law();
+        laws::described_return();
+    }
+}
+
+impl Serialize for Colour {
+    ghost use Rattle.std.specs.Prelude.{codes};
+    ghost use Rattle.serde_amqp.specs.Derive.{name, basic_composite, of_symbol};
+
+    ghost tree = { λ x. basic_composite (name (codes "shop:colour")) (of_symbol x.0) };
+
+    fn serialize<S: Serializer>(&self, serializer: &mut S) -> Result<S::Ok, S::Error> {
+        serializer.serialize_described(&Name("shop:colour"), &self.0)
+    }
+}
+
+impl Record for Colour {
+    type Values = Symbol;
+
+    ghost parts = { λ x. x.0 };
+}
+
+impl FromParts for Colour {
+    fn from_parts(parts: Symbol) -> Colour {
+        Colour(parts)
+    }
+}
+
+impl Deserialize for Colour {
+    ghost use Rattle.std.specs.Prelude.{codes};
+    ghost use Rattle.serde_amqp.specs.Derive.{name, described, OnDescribed};
+
+    ghost reads = { λ t x. OnDescribed (name (codes "shop:colour")) (λ u. ⟦<Symbol as Deserialize>⟧.reads u x.0) t };
+
+    ghost image = { λ x. described (name (codes "shop:colour")) (⟦<TypeSeed<Symbol> as DeserializeSeed>⟧.image (⟦<Colour as Record>⟧.parts x)) };
+
+    ghost restorable = { λ x. ⟦<TypeSeed<Symbol> as DeserializeSeed>⟧.restorable (⟦<Colour as Record>⟧.parts x) };
+
+    ghost same = { λ x y. ⟦<TypeSeed<Symbol> as DeserializeSeed>⟧.same (⟦<Colour as Record>⟧.parts x) (⟦<Colour as Record>⟧.parts y) };
+
+    fn deserialize<D: Deserializer>(alloc: Global, deserializer: D) -> Result<Colour, D::Error> {
+        build_named::<Colour, D, _>(
+            alloc,
+            deserializer,
+            "shop:colour",
+            TypeSeed(PhantomData::<Symbol>),
+        )
+    }
+
+    fn read_encoded(
+        alloc: Global,
+        code: u8,
+        input: &mut &[u8],
+        depth: u16,
+    ) -> Result<Colour, GaveUp> {
+        build_named_encoded::<Colour, _>(
+            alloc,
+            code,
+            input,
+            depth,
+            "shop:colour",
+            TypeSeed(PhantomData::<Symbol>),
+        )
+    }
+}
+
+impl RoundTrip for Colour {
+    fn law() {
+        <Symbol as RoundTrip>::law();
         laws::described_return();
     }
 }

@@ -2,7 +2,7 @@
 //! day number to a date.
 
 pub use amqp_data::{
-    Array, ByteBuf, Dec32, Dec64, Dec128, F32Bits, F64Bits, Iter, IterMut, Keys, MapIndex,
+    Array, ByteBuf, Dec32, Dec64, Dec128, Entry, F32Bits, F64Bits, Iter, IterMut, Keys, MapIndex,
     Multiple, OrderedMap, OrderedMapBuilder, Symbol, SymbolRef, Timestamp, Uuid, Values, ValuesMut,
     civil_from_days, finds_distinct_keys,
 };

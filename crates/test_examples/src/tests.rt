@@ -4,8 +4,8 @@
 //! that fails prints its name and the result.
 
 mod bench;
-mod composites;
 mod derived;
+mod forms;
 mod reading;
 
 use serde_amqp::{Error, Value};

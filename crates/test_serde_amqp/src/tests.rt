@@ -2,6 +2,7 @@
 //! some of which fail. Rows of sizes, bytes and images are data of the program `test_rows`.
 
 mod building;
+mod call_counts;
 mod conversions;
 mod cut_rows;
 mod encodings;

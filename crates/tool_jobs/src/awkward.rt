@@ -2,14 +2,14 @@
 
 use crate::numbers::{ordered, words};
 use crate::one_byte::OneByte;
-use crate::places::Marked;
-use crate::receive::encoded;
 use serde_amqp::decode::decode_value;
 use serde_amqp::lazy::LazyValue;
 use serde_amqp::primitives::{Array, OrderedMap};
 use serde_amqp::read::{IoReader, Read};
 use serde_amqp::{Error, from_value, serialized_size, to_vec};
 use std::alloc::Global;
+use tool_shapes::places::Marked;
+use tool_shapes::received::encoded;
 use tool_shapes::{Digest, Random};
 
 /// Converts `rounds` times unfavourable inputs, with a part of the elements, in percent.

@@ -18,10 +18,8 @@
 mod awkward;
 mod batch;
 mod batch_maps;
-mod long_forms;
 mod numbers;
 mod one_byte;
-mod places;
 mod receive;
 mod route;
 mod sections;
@@ -32,7 +30,7 @@ use serde_amqp::Error;
 use std::alloc::Global;
 use std::env::Env;
 use std::process::ExitCode;
-use tool_shapes::{Digest, Random};
+use tool_shapes::{Digest, Random, number_argument};
 
 fn main(rt: HostRuntime) -> ExitCode {
     let mut word = [0; 16];
@@ -65,21 +63,6 @@ fn run_named(rt: &(impl Env + Print + AllocGlobal), job: &[u8]) -> Result<(), Er
     let seed = number_argument(rt, 2)?;
     let rounds = number_argument(rt, 3)?;
     print_digest(rt, job, seed, rounds, 100)
-}
-
-// Returns the number that is the argument at this index.
-fn number_argument(rt: &impl Env, index: usize) -> Result<u64, Error> {
-    let mut word = [0; 20];
-    let Ok(len) = rt.arg(index, &mut word) else {
-        return Err(Error::Message("a number is missing"));
-    };
-    let Ok(text) = str::from_utf8(&word[..len]) else {
-        return Err(Error::InvalidValue);
-    };
-    match text.parse() {
-        Ok(number) => Ok(number),
-        Err(_) => Err(Error::InvalidValue),
-    }
 }
 
 // Runs a job with a part of its elements, in percent, and prints the digest of its results.

@@ -3,19 +3,16 @@
 
 pub mod typed;
 
-use crate::long_forms::put_section;
-use crate::places::{LONG_MARKER, MARKER, Marked};
 use crate::sections::{Header, Properties};
-use example_composites::{AnnotationKey, SimpleValue};
 use serde_amqp::decode::decode_value;
 use serde_amqp::lazy::LazyValue;
 use serde_amqp::primitives::OrderedMap;
 use serde_amqp::read::{IoReader, Read, SliceReader};
-use serde_amqp::ser::Serialize;
-use serde_amqp::{Error, Value, from_value, to_vec};
+use serde_amqp::{Error, Value, from_value};
 use std::alloc::Global;
 use std::io::BufReader;
-use tool_shapes::messages::Message;
+use tool_shapes::places::Marked;
+use tool_shapes::received::encoded;
 use tool_shapes::{Digest, Random};
 
 /// Receives `rounds` times 64 messages, every other one in the longest encodings.
@@ -45,50 +42,6 @@ pub fn run(
         }
     }
     Ok(())
-}
-
-/// Returns the bytes of a message, with markers in each section.
-pub fn encoded(alloc: Global, random: &mut Random, is_long: bool) -> Result<Vec<u8>, Error> {
-    let pool = random.bytes(alloc, 65_536)?;
-    let mut message = Message::new(alloc, random)?;
-    message.renumber(alloc, &pool, LONG_MARKER)?;
-    message.transfer.delivery_id = Some(MARKER);
-    message.header.ttl = Some(MARKER);
-    message.properties.group_sequence = Some(MARKER);
-    let value = Value::Ulong(LONG_MARKER);
-    drop(
-        message
-            .annotations
-            .0
-            .insert(AnnotationKey::Ulong(7), value)?,
-    );
-    let key = String::from_str(alloc, "sequence")?;
-    let value = SimpleValue::Ulong(LONG_MARKER);
-    drop(message.application.0.insert(key, value)?);
-    let mut bytes = Vec::new(alloc);
-    put(alloc, &mut bytes, &message.transfer, is_long)?;
-    put(alloc, &mut bytes, &message.header, is_long)?;
-    put(alloc, &mut bytes, &message.annotations, is_long)?;
-    put(alloc, &mut bytes, &message.properties, is_long)?;
-    put(alloc, &mut bytes, &message.application, is_long)?;
-    put(alloc, &mut bytes, &message.body, is_long)?;
-    Ok(bytes)
-}
-
-// Appends a part of a message.
-fn put<T: Serialize>(
-    alloc: Global,
-    bytes: &mut Vec<u8>,
-    part: &T,
-    is_long: bool,
-) -> Result<(), Error> {
-    let written = to_vec(alloc, part)?;
-    if is_long {
-        put_section(alloc, bytes, &decode_value(alloc, &written)?)
-    } else {
-        bytes.extend_from_slice(&written)?;
-        Ok(())
-    }
 }
 
 // Receives a message: six sections.

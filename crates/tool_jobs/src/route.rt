@@ -1,11 +1,11 @@
 //! A router that looks up properties of messages, adds an annotation and sends the map on.
 
-use crate::places::{LONG_MARKER, Marked};
 use serde_amqp::decode::decode_value;
 use serde_amqp::primitives::{OrderedMap, Symbol, Timestamp};
 use serde_amqp::{Error, Value, serialized_size, to_vec};
 use std::alloc::Global;
 use tool_shapes::messages::moment;
+use tool_shapes::places::{LONG_MARKER, Marked};
 use tool_shapes::texts::{name, uuid};
 use tool_shapes::{Digest, Random};
 

@@ -1,8 +1,6 @@
 //! A diagnostic tool: texts of values, a line for each encoded value of a capture, and the report on
 //! the lines of a text.
 
-use crate::places::{LONG_MARKER, Marked};
-use crate::receive::encoded;
 use crate::route::property;
 use serde_amqp::decode::decode_value;
 use serde_amqp::lazy::LazyValue;
@@ -11,6 +9,8 @@ use serde_amqp::read::{IoReader, Read, SliceReader};
 use serde_amqp::{Error, Value, VecWriter, run_cut, run_lines, to_vec};
 use std::alloc::Global;
 use std::io::BufReader;
+use tool_shapes::places::{LONG_MARKER, Marked};
+use tool_shapes::received::encoded;
 use tool_shapes::texts::mixed;
 use tool_shapes::{Digest, Random};
 

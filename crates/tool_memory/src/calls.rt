@@ -55,7 +55,8 @@ fn are_inserted(alloc: Global) -> Result<bool, Error> {
 
 fn are_collected(alloc: Global) -> Result<bool, Error> {
     let vector = TransparentVec::try_collect(alloc, [1u8, 2, 3].into_iter())?;
-    Ok(vector.as_slice() == [1, 2, 3].as_slice())
+    let same: TransparentVec<u8> = [1u8, 2, 3].into_iter().collect(alloc)?;
+    Ok(vector.as_slice() == [1, 2, 3].as_slice() && same == vector)
 }
 
 // Serializes a list with a list in it, and five nested lists: growing the table fails inside the

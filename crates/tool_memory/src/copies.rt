@@ -17,8 +17,15 @@ fn maps(alloc: Global) -> Result<bool, Error> {
     let mut map = OrderedMap::with_capacity(alloc, 2)?;
     map.reserve(4)?;
     map.extend([(2u8, true), (1u8, false)].into_iter())?;
+    let mut counts = OrderedMap::new(alloc);
+    *counts.entry(1u8).or_insert(0u8)? = 2;
+    *counts.entry(2u8).or_insert_with(|| 0)? = 3;
     let index = map.lookup(alloc)?;
-    Ok(index.get(&1) == Some(&false) && index.get(&3).is_none())
+    Ok(
+        counts.as_slice() == [(1, 2), (2, 3)].as_slice()
+            && index.get(&1) == Some(&false)
+            && index.get(&3).is_none(),
+    )
 }
 
 fn clones(alloc: Global) -> Result<bool, Error> {

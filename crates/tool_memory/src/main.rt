@@ -16,7 +16,7 @@
 //!
 //! | Line, or rows | Calls |
 //! |---|---|
-//! | names, maps and vectors | `Symbol::try_from_str`, `TransparentVec::try_collect` |
+//! | names, maps and vectors | `Symbol::try_from_str`, `TransparentVec::try_collect`, `TransparentVec::from_iter` |
 //! | the same | `OrderedMap::new`, `OrderedMap::insert` |
 //! | rows of read, refused elements | `to_vec`, `Serialize::serialize`, `Value::serialize` |
 //! | rows of read and write | `to_value`, `Serializer::new` |
@@ -29,7 +29,7 @@
 //! | the same | `Value::try_from_btree_map`, `Value::try_from_ordered_map`, `Vec::try_from`, `Array::try_from` |
 //! | the same | `OrderedMap::try_from`, `BTreeMap::try_from`, `HashMap::try_from`, `IndexMap::try_from` |
 //! | the same | `TryFromSerializable::try_from_serializable` |
-//! | maps and clones | `OrderedMap::with_capacity`, `OrderedMap::reserve`, `OrderedMap::extend`, `OrderedMap::lookup` |
+//! | maps and clones | `OrderedMap::with_capacity`, `OrderedMap::reserve`, `OrderedMap::extend`, `OrderedMap::lookup`, `Entry::or_insert`, `Entry::or_insert_with` |
 //! | built values | `BuildList::new`, `BuildList::finish`, `BuildMap::new`, `BuildMap::finish`, `IntoValue::into_value` |
 //! | encodings | `append`, `append_to`, `to_vec_strict`, `write_to`, `Encoder::new`, `Encoder::encode` |
 //! | rows of decode and decode_within | `decode_value`, `decode_value_limited`, `decode_value_to_depth` |

@@ -4,23 +4,29 @@
 //! measured work is in one call. The static library `tool_bench` exports them to C.
 #![tactic(auto)]
 
+mod arguments;
 mod attach;
 mod attach_read;
 mod chain;
 mod chain_read;
+pub mod composites;
 mod described_read;
 mod digest;
 mod fed;
 mod hash;
 mod inputs;
+mod long_forms;
 mod maps;
 mod message;
 pub mod messages;
+pub mod places;
 mod random;
+pub mod received;
 mod repeat;
 mod run;
 pub mod texts;
 
+pub use arguments::number_argument;
 pub use attach::{Attach, DescribedAttach};
 pub use chain::Chain;
 pub use chain_read::read_chain;

@@ -1,13 +1,13 @@
 //! Messages: the performatives and sections that a client writes.
 
+use crate::composites::{
+    Accepted, Address, AnnotationKey, ApplicationProperties, Data, DeliveryState, Disposition,
+    Flow, Header, MessageAnnotations, MessageId, Outcome, Properties, Role, SimpleValue, Transfer,
+};
 use crate::random::Random;
 use crate::texts::{body, body_len, name, symbol, uuid};
 use amqp_data::{ByteBuf, Error, F64Bits, OrderedMap, Symbol, Timestamp};
 use amqp_value::Value;
-use example_composites::{
-    Accepted, Address, AnnotationKey, ApplicationProperties, Data, DeliveryState, Disposition,
-    Flow, Header, MessageAnnotations, MessageId, Outcome, Properties, Role, SimpleValue, Transfer,
-};
 use std::alloc::Global;
 
 /// A message with its transfer.

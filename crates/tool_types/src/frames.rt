@@ -1,8 +1,10 @@
 //! Rows of frames.
 
 use crate::words::{bytes_of, word_of};
-use amqp_transport::{AMQP, Frame, FrameError, ProtocolHeader, frame_of, frame_to_vec};
-use serde_amqp::{Error, Value, from_slice};
+use amqp_types::{
+    AMQP, Frame, FrameError, Performative, ProtocolHeader, SASL, SaslFrame, frame_of, frame_to_vec,
+};
+use serde_amqp::{Error, from_slice};
 use std::alloc::Global;
 
 // The size of the largest frame.
@@ -21,7 +23,7 @@ pub fn written(alloc: Global, arguments: &str) -> Result<String, Error> {
     let Ok(channel) = channel.parse::<u16>() else {
         return Err(Error::Message("no number"));
     };
-    let performative: Value = from_slice(alloc, &bytes_of(alloc, performative)?)?;
+    let performative: Performative = from_slice(alloc, &bytes_of(alloc, performative)?)?;
     let payload = bytes_of(alloc, payload)?;
     match frame_to_vec(alloc, AMQP, channel, &performative, &payload, LIMIT) {
         Ok(frame) => word_of(alloc, &frame),
@@ -54,15 +56,21 @@ pub fn read(alloc: Global, bytes: &[u8]) -> Result<String, Error> {
 // Returns the channel of a frame, its performative and its payload.
 fn shown(alloc: Global, frame: &Frame<'_>) -> Result<String, Error> {
     let channel = frame.header.channel;
-    match frame.performative::<Value>(alloc) {
+    if frame.body.is_empty() {
+        return Ok(format!(in alloc; "{channel} empty")?);
+    }
+    if frame.header.kind == SASL {
+        return match frame.performative::<SaslFrame>(alloc) {
+            Ok((read, _)) => Ok(format!(in alloc; "{read:?}")?),
+            Err(error) => failed(alloc, error),
+        };
+    }
+    match frame.performative::<Performative>(alloc) {
         Ok((read, payload)) => {
             let payload = word_of(alloc, payload)?;
-            Ok(format!(in alloc; "{channel} {read} {payload}")?)
+            Ok(format!(in alloc; "{channel} {read:?} {payload}")?)
         }
-        Err(error) => {
-            let error = failed(alloc, error)?;
-            Ok(format!(in alloc; "{channel} {error}")?)
-        }
+        Err(error) => failed(alloc, error),
     }
 }
 

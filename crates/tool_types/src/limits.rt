@@ -2,9 +2,9 @@
 
 use crate::frames::failed;
 use crate::words::{bytes_of, first_word, number_of, word_of};
-use amqp_transport::{FrameError, SASL, frame_of, frame_to_vec, read_frame};
+use amqp_types::{FrameError, SASL, SaslFrame, frame_of, frame_to_vec, read_frame};
 use serde_amqp::read::SliceReader;
-use serde_amqp::{Error, Value, from_slice};
+use serde_amqp::{Error, from_slice};
 use std::alloc::Global;
 
 // Returns the limit and the bytes.
@@ -18,7 +18,7 @@ pub fn written(alloc: Global, arguments: &str) -> Result<String, Error> {
     let (limit, words) = first_word(arguments)?;
     let limit = number_of(limit)?;
     let (performative, payload) = first_word(words)?;
-    let performative: Value = from_slice(alloc, &bytes_of(alloc, performative)?)?;
+    let performative: SaslFrame = from_slice(alloc, &bytes_of(alloc, performative)?)?;
     let payload = bytes_of(alloc, payload)?;
     match frame_to_vec(alloc, SASL, 0, &performative, &payload, limit) {
         Ok(frame) => word_of(alloc, &frame),

@@ -7,16 +7,16 @@
 //! | Row | Result |
 //! |---|---|
 //! | `type TYPE BYTES` | the bytes by which the value of this type is written |
-//! | `described TYPE BYTES` | these bytes; those by which it is written if the name of the descriptor is in place of its code; how many proper prefixes of the bytes are read |
+//! | `described TYPE NAME BYTES` | these bytes; those by which it is written if the name of the descriptor is in place of its code; how many proper prefixes of the bytes are read |
 //! | `default TYPE BYTES` | what the value's methods `_or_default` return, in the order of the fields |
-//! | `section BYTES` | the bytes by which the value is written, and its `Debug` text |
+//! | `section BYTES`, `performative BYTES`, `sasl BYTES`, `state BYTES` | the bytes by which the value is written, and its `Debug` text |
 //! | `message BYTES` | the bytes by which the message is written, and the lazy message; the `Debug` text |
 //! | `lazy BYTES` | the bare message, the body and the footer of the lazy message |
 //! | `changed BYTES` | the lazy message with another header and without annotations |
 //! | `sections BYTES` | the kind and the bytes of each section |
 //! | `frame CHANNEL BYTES PAYLOAD` | the frame with this performative and this payload |
 //! | `frame_within LIMIT BYTES PAYLOAD` | the same of a frame of SASL, of at most this size |
-//! | `frames BYTES` | for each frame: its channel, the performative as untyped value, and the payload |
+//! | `frames BYTES` | for each frame: its channel, the performative, and the payload |
 //! | `split LIMIT BYTES` | the size, data offset, type and channel of the frame, its extended header and its body, and the bytes after it |
 //! | `take LIMIT BYTES` | each frame that is taken off a reader |
 //! | `incomplete LIMIT BYTES` | how many proper prefixes the bytes have, and how many of them are an incomplete frame |

@@ -1,8 +1,8 @@
 //! Rows of messages.
 
 use crate::words::word_of;
-use amqp_messaging::message::sections;
-use amqp_messaging::{Header, LazyMessage, Message, MessageError};
+use amqp_types::message::sections;
+use amqp_types::{Header, LazyMessage, Message, MessageError};
 use serde_amqp::Error;
 use std::alloc::Global;
 

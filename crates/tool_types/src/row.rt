@@ -2,7 +2,7 @@
 
 use crate::words::{bytes_of, first_word, word_of};
 use crate::{frames, limits, messages, standard, types};
-use amqp_messaging::Section;
+use amqp_types::{DeliveryState, Performative, SaslFrame, Section};
 use serde_amqp::de::Deserialize;
 use serde_amqp::ser::Serialize;
 use serde_amqp::{Error, from_slice, to_vec};
@@ -29,6 +29,9 @@ pub fn answer(alloc: Global, line: &str) -> Result<String, Error> {
 fn of_bytes(alloc: Global, call: &str, bytes: &[u8]) -> Result<String, Error> {
     match call {
         "section" => again::<Section>(alloc, bytes),
+        "performative" => again::<Performative>(alloc, bytes),
+        "sasl" => again::<SaslFrame>(alloc, bytes),
+        "state" => again::<DeliveryState>(alloc, bytes),
         "message" => messages::answer(alloc, messages::whole(alloc, bytes)),
         "lazy" => messages::answer(alloc, messages::lazy(alloc, bytes)),
         "changed" => messages::answer(alloc, messages::changed(alloc, bytes)),

@@ -1,7 +1,6 @@
 //! Rows of values by the name of their type.
 
 use crate::kinds::written_again;
-use crate::standard::name_with;
 use crate::words::{bytes_of, first_word, word_of};
 use serde_amqp::Error;
 use std::alloc::Global;
@@ -16,21 +15,21 @@ pub fn written(alloc: Global, arguments: &str) -> Result<String, Error> {
 /// Returns the bytes by which a described value is written, those by which it is written if it is
 /// read after the name of its descriptor, and how many proper prefixes of the bytes are read.
 pub fn described(alloc: Global, arguments: &str) -> Result<String, Error> {
-    let (kind, word) = first_word(arguments)?;
+    let (kind, words) = first_word(arguments)?;
+    let (name, word) = first_word(words)?;
     let bytes = bytes_of(alloc, word)?;
     let first = word_of(alloc, &written_again(alloc, kind, &bytes)?)?;
-    let named = after_its_name(alloc, &bytes)?;
+    let named = after_its_name(alloc, name, &bytes)?;
     let second = word_of(alloc, &written_again(alloc, kind, &named)?)?;
     let prefixes = prefixes_read(alloc, kind, &bytes);
     Ok(format!(in alloc; "{first} {second} {prefixes}")?)
 }
 
-// Returns the encoding with the name of the descriptor in place of its code.
-fn after_its_name(alloc: Global, bytes: &[u8]) -> Result<Vec<u8>, Error> {
-    let [0x00, 0x53, code, rest @ ..] = bytes else {
+// Returns the encoding with this name in place of the code of the descriptor.
+fn after_its_name(alloc: Global, name: &str, bytes: &[u8]) -> Result<Vec<u8>, Error> {
+    let [0x00, 0x53, _, rest @ ..] = bytes else {
         return Err(Error::Message("no code"));
     };
-    let name = name_with(*code)?;
     let Ok(len) = u8::try_from(name.len()) else {
         return Err(Error::TooLong);
     };

@@ -1,15 +1,17 @@
 //! The seed that reads one of the variants of an enum.
 
-ghost use Rattle.std.specs.Prelude.{◌≡◌, List, [], ◌∷◌, Option, Some, None, MatchResult};
+ghost use Rattle.std.specs.Prelude.{◌≡◌, List, [], ◌∷◌, Option, Some, None, IfOk, MatchResult, suc};
 ghost use Rattle.amqp_ser.specs.Tree.{Tree, scalar, uint};
+ghost use Rattle.amqp_decode.specs.Parsed.{parse};
 ghost use Rattle.amqp_de.specs.Answers.{Answers};
-ghost use Rattle.amqp_de.specs.Enums.{OnEnum, OnListed, OnKeyed, enum_image, value_of, AtIndex, index_of_tree};
+ghost use Rattle.amqp_de.specs.Enums.{OnEnum, OnListed, OnKeyed, VariantFills, enum_image, value_of, AtIndex, index_of_tree};
 
 use super::variants::Variants;
 use crate::content::Content;
 use crate::deserialize_error::DeserializeError;
 use crate::deserializer::Deserializer;
 use crate::seed::DeserializeSeed;
+use amqp_decode::prefix::{GaveUp, below, read_uint, split_byte, split_map};
 use std::alloc::Global;
 
 /// Reads the variant with this index and value.
@@ -79,6 +81,28 @@ fn read_keyed<D: Deserializer, V: Variants>(
     }
 }
 
+// Reads the variant whose index and value fill the body of a map.
+fn read_pair<V: Variants>(
+    alloc: Global,
+    variants: V,
+    body: &[u8],
+    depth: u16,
+) -> Result<V::Value, GaveUp>
+    ensures { IfOk result (VariantFills (V.reads variants) V.position V.content V.restorable V.same
+        (parse (suc depth)) body.now) }
+{
+    let (of_index, after) = split_byte(body)?;
+    let (index, encoded) = read_uint(of_index, after)?;
+    let (code, payload) = split_byte(encoded)?;
+    let mut rest = payload;
+    let value = variants.read_value(alloc, index, code, &mut rest, depth)?;
+    if rest.is_empty() {
+        Ok(value)
+    } else {
+        Err(GaveUp)
+    }
+}
+
 /// A seed that reads a variant from its index, from a list of the index and the value, or from a
 /// map from the index to the value.
 #[derive(Drop)]
@@ -123,6 +147,33 @@ impl<V: Variants> DeserializeSeed for EnumSeed<V> {
                 Err(error) => Err(error),
             },
             _ => Err(D::Error::invalid_value()),
+        }
+    }
+
+    /// Supports the index of a variant without a value, and a map from the index to the value.
+    fn read_encoded(
+        self,
+        alloc: Global,
+        code: u8,
+        input: &mut &[u8],
+        depth: u16,
+    ) -> Result<V::Value, GaveUp> {
+        if let Ok((index, after)) = read_uint(code, *input) {
+            *input = after;
+            return match self.0.read_index(index) {
+                Ok(value) => Ok(value),
+                Err(error) => Err(error),
+            };
+        }
+        let (count, body, rest) = split_map(code, *input)?;
+        if count != 1 {
+            return Err(GaveUp);
+        }
+        *input = rest;
+        let inside = below(depth)?;
+        match read_pair::<V>(alloc, self.0, body, inside) {
+            Ok(value) => Ok(value),
+            Err(error) => Err(error),
         }
     }
 }

@@ -1,14 +1,16 @@
 //! The variants of an enum, in order.
 
-ghost use Rattle.std.specs.Prelude.{◌≡◌, ℕ, Option, Some, None, MatchResult};
+ghost use Rattle.std.specs.Prelude.{◌≡◌, ℕ, ◌∷◌, Option, Some, None, IfOk, MatchResult};
 ghost use Rattle.amqp_ser.specs.Tree.{Tree};
 ghost use Rattle.amqp_de.specs.Answers.{Answers};
-ghost use Rattle.amqp_de.specs.Enums.{IsUnitVariant, IsDataVariant, IsNoVariant, value_of};
+ghost use Rattle.amqp_de.specs.Encoded.{ReadsPrefix};
+ghost use Rattle.amqp_de.specs.Enums.{IsUnitVariant, IsDataVariant, IsNoVariant, VariantReading, value_of};
 ghost use Rattle.amqp_de.specs.Reads.{Always};
 
 use crate::deserialize_error::DeserializeError;
 use crate::deserializer::Deserializer;
 use crate::seed::DeserializeSeed;
+use amqp_decode::prefix::GaveUp;
 use std::alloc::Global;
 
 /// A variant, or one of the variants after it.
@@ -69,6 +71,43 @@ pub trait Variants: Sized + Drop {
         ensures law { (x : Self.Value) → restorable x →
             index ≡ position x → value_of D.value value ≡ content x →
             MatchResult result (λ y. same y x) D.Error.is_out_of_memory };
+
+    /// Returns the variant with this index, which has no value.
+    ///
+    /// The provided method gives up.
+    ///
+    /// # Errors
+    /// Returns `GaveUp` if no variant has this index, or if the variant has a value.
+    fn read_index(self, index: u32) -> Result<Self::Value, GaveUp>
+        ensures { IfOk result (VariantReading (reads self) position content restorable same index None) }
+    {
+        drop(self);
+        Err(GaveUp)
+    }
+
+    /// Reads the variant with this index from the payload of its value after its format code,
+    /// without an untyped value, and leaves the bytes after it.
+    ///
+    /// The provided method gives up.
+    ///
+    /// # Errors
+    /// Returns `GaveUp` if no variant has this index, if the variant has no value, and as the seed
+    /// does.
+    fn read_value(
+        self,
+        alloc: Global,
+        index: u32,
+        code: u8,
+        input: &mut &[u8],
+        depth: u16,
+    ) -> Result<Self::Value, GaveUp>
+        ensures { IfOk result (λ v. ReadsPrefix
+            (λ t. VariantReading (reads self) position content restorable same index (Some t))
+            depth (code ∷ input.old.now) input.new.now v) }
+    {
+        drop(self);
+        Err(GaveUp)
+    }
 }
 
 impl Variants for () {
@@ -130,6 +169,33 @@ impl<R: Variants> Variants for UnitVariant<R> {
             Err(error) => Err(error),
         }
     }
+
+    fn read_index(self, index: u32) -> Result<Either<(), R::Value>, GaveUp> {
+        if index == 0 {
+            return Ok(Either::This(()));
+        }
+        match self.rest.read_index(index - 1) {
+            Ok(other) => Ok(Either::Other(other)),
+            Err(error) => Err(error),
+        }
+    }
+
+    fn read_value(
+        self,
+        alloc: Global,
+        index: u32,
+        code: u8,
+        input: &mut &[u8],
+        depth: u16,
+    ) -> Result<Either<(), R::Value>, GaveUp> {
+        if index == 0 {
+            return Err(GaveUp);
+        }
+        match self.rest.read_value(alloc, index - 1, code, input, depth) {
+            Ok(other) => Ok(Either::Other(other)),
+            Err(error) => Err(error),
+        }
+    }
 }
 
 /// A variant with a value, and the variants after it.
@@ -174,6 +240,36 @@ impl<S: DeserializeSeed, R: Variants> Variants for DataVariant<S, R> {
             };
         }
         match self.rest.deserialize(alloc, index - 1, value) {
+            Ok(other) => Ok(Either::Other(other)),
+            Err(error) => Err(error),
+        }
+    }
+
+    fn read_index(self, index: u32) -> Result<Either<S::Value, R::Value>, GaveUp> {
+        if index == 0 {
+            return Err(GaveUp);
+        }
+        match self.rest.read_index(index - 1) {
+            Ok(other) => Ok(Either::Other(other)),
+            Err(error) => Err(error),
+        }
+    }
+
+    fn read_value(
+        self,
+        alloc: Global,
+        index: u32,
+        code: u8,
+        input: &mut &[u8],
+        depth: u16,
+    ) -> Result<Either<S::Value, R::Value>, GaveUp> {
+        if index == 0 {
+            return match self.seed.read_encoded(alloc, code, input, depth) {
+                Ok(this) => Ok(Either::This(this)),
+                Err(error) => Err(error),
+            };
+        }
+        match self.rest.read_value(alloc, index - 1, code, input, depth) {
             Ok(other) => Ok(Either::Other(other)),
             Err(error) => Err(error),
         }

@@ -30,7 +30,8 @@ impl<T: Deserialize> Deserialize for Option<T> {
         Ok(Some(T::deserialize(alloc, deserializer)?))
     }
 
-    #[inline(always)]
+    // Not `inline(always)`: so the compiler does not count it in the size of a struct of many fields.
+    #[inline]
     fn read_encoded(
         alloc: Global,
         code: u8,

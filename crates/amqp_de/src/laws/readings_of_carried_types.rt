@@ -3,8 +3,11 @@
 //! The `Deserialize` implementation of a type declares its reading. These laws state the readings
 //! independently of the implementations.
 
-ghost use Rattle.std.specs.Prelude.{◌≡◌, ◌↔◌, ℕ, List, Box, None, Option, Some, String, Vec, string_bytes, true};
+ghost use Rattle.std.specs.Prelude.{◌≡◌, ◌↔◌, ℕ, List, Box, None, Option, Some, String, Vec, length, map, string_bytes, take, true};
 ghost use Rattle.std.specs.Global.{Global};
+ghost use Rattle.std.specs.HashMap.{IsFromIterResult};
+ghost use Rattle.std.specs.List.{AllByRecursion, AllZip};
+ghost use Rattle.std.specs.Map.{keys_of};
 ghost use Rattle.amqp_data.specs.Fixed.{dec32_bytes, dec64_bytes, dec128_bytes, f32_bits, f64_bits, milliseconds_of, uuid_bytes};
 ghost use Rattle.amqp_data.specs.Items.{array_items, byte_buf_bytes, transparent_items};
 ghost use Rattle.amqp_data.specs.Pairs.{entries_of};
@@ -12,15 +15,15 @@ ghost use Rattle.amqp_data.specs.Text.{symbol_text};
 ghost use Rattle.amqp_ser.specs.Carried.{descriptor_content};
 ghost use Rattle.amqp_ser.specs.Encoding.{encoding};
 ghost use Rattle.amqp_ser.specs.Tree as tree;
-ghost use Rattle.amqp_ser.specs.Tree.{Pairs, Tree, scalar};
+ghost use Rattle.amqp_ser.specs.Tree.{Pairs, Tree, Trees, scalar, trees_of};
 ghost use Rattle.amqp_ser.specs.Writable.{writable};
 ghost use Rattle.amqp_value.specs.Converts.{inserted_in_order, inserted_sorted};
 ghost use Rattle.amqp_value.specs.Sound.{IsSound};
-ghost use Rattle.amqp_value.specs.TreeOf.{tree_of};
+ghost use Rattle.amqp_value.specs.TreeOf.{pairs_of, tree_of};
 ghost use Rattle.amqp_value.specs.declared.value.Value.{Value};
-ghost use Rattle.amqp_de.specs.Maps.{ReadsPairs};
-ghost use Rattle.amqp_de.specs.Readings.{ImageOfEach, ReadsEach, ReadsScalar, RestorableIfEach, SameIfEach};
-ghost use Rattle.amqp_de.specs.Values.{entries_in};
+ghost use Rattle.amqp_de.specs.Maps.{AreDistinct, Ascend, ReadsPairs, SameInSomeOrder};
+ghost use Rattle.amqp_de.specs.Readings.{BeginsWith, ImageOfEach, ReadsEach, ReadsScalar, RestorableIfEach, SameIfEach};
+ghost use Rattle.amqp_de.specs.Values.{elements_in, entries_in};
 
 use crate::deserialize::Deserialize;
 use amqp_data::{
@@ -29,12 +32,13 @@ use amqp_data::{
 };
 use amqp_frame::LazyValue;
 use amqp_value::Value;
-use std::collections::BTreeMap;
+use std::collections::{BTreeMap, HashMap};
 use std::hash::Hash;
 
 /// `()` is read from null, and booleans, integers and characters from their own kinds.
 pub fn readings_of_numbers()
     ensures unit { (t : Tree) → ⟦<() as Deserialize>⟧.reads t tt ↔ t ≡ scalar tree.null }
+    ensures unit_image { ⟦<() as Deserialize>⟧.image tt ≡ scalar tree.null }
     ensures bool { ReadsScalar tree.bool (λ x. x)
         ⟦<bool as Deserialize>⟧.reads ⟦<bool as Deserialize>⟧.image
         ⟦<bool as Deserialize>⟧.restorable ⟦<bool as Deserialize>⟧.same }
@@ -152,9 +156,48 @@ pub fn readings_of_arrays<T: Deserialize>()
     ensures same { SameIfEach array_items T.same ⟦<Array<T> as Deserialize>⟧.same }
 {}
 
+/// A tuple is read from a list whose first elements are read as its fields, in order. Further elements
+/// are ignored.
+pub fn readings_of_tuples<A: Deserialize, B: Deserialize, C: Deserialize, D: Deserialize>(
+    one: &(A,),
+    two: &(A, B),
+    three: &(A, B, C),
+    four: &(A, B, C, D),
+)
+    ensures one { (t : Tree) → ⟦<(A,) as Deserialize>⟧.reads t one.now
+        ↔ ((ts : Trees) × (t ≡ tree.list ts)
+        × BeginsWith A.reads one.now.0 (λ _. Unit {0}) (elements_in ts)) }
+    ensures two { (t : Tree) → ⟦<(A, B) as Deserialize>⟧.reads t two.now
+        ↔ ((ts : Trees) × (t ≡ tree.list ts)
+        × BeginsWith A.reads two.now.0 (BeginsWith B.reads two.now.1 (λ _. Unit {0})) (elements_in ts)) }
+    ensures three { (t : Tree) → ⟦<(A, B, C) as Deserialize>⟧.reads t three.now
+        ↔ ((ts : Trees) × (t ≡ tree.list ts)
+        × BeginsWith A.reads three.now.0 (BeginsWith B.reads three.now.1
+        (BeginsWith C.reads three.now.2 (λ _. Unit {0}))) (elements_in ts)) }
+    ensures four { (t : Tree) → ⟦<(A, B, C, D) as Deserialize>⟧.reads t four.now
+        ↔ ((ts : Trees) × (t ≡ tree.list ts)
+        × BeginsWith A.reads four.now.0 (BeginsWith B.reads four.now.1
+        (BeginsWith C.reads four.now.2 (BeginsWith D.reads four.now.3 (λ _. Unit {0})))) (elements_in ts)) }
+{}
+
+/// An array of Rust is read from a list of at least as many elements. Further elements are ignored.
+pub fn readings_of_fixed_lengths<T: Deserialize, const N: usize>(array: &[T; N])
+    ensures reads { (t : Tree) → ⟦<[T; N] as Deserialize>⟧.reads t array.now
+        ↔ ((ts : Trees) × (t ≡ tree.list ts)
+        × ((length array.now ≡ N) × AllZip T.reads (take N (elements_in ts)) array.now)) }
+    ensures image { ⟦<[T; N] as Deserialize>⟧.image array.now
+        ≡ tree.list (trees_of (map T.image array.now)) }
+    ensures restorable { ⟦<[T; N] as Deserialize>⟧.restorable array.now
+        ↔ ((length array.now ≡ N) × AllByRecursion T.restorable array.now) }
+{}
+
 /// The maps are read from a map. Its pairs are read and inserted in order: into an `OrderedMap` at the
-/// position of the first equal key, into a `BTreeMap` at the sorted position.
-pub fn readings_of_maps<K: Deserialize + Ord + Hash, V: Deserialize>(sorted: &BTreeMap<K, V>)
+/// position of the first equal key, into a `BTreeMap` at the sorted position, and into a `HashMap` at
+/// any.
+pub fn readings_of_maps<K: Deserialize + Ord + Hash, V: Deserialize>(
+    sorted: &BTreeMap<K, V>,
+    hashed: &HashMap<K, V>,
+)
     ensures ordered { (t : Tree) (m : OrderedMap K V) →
         ⟦<OrderedMap<K, V> as Deserialize>⟧.reads t m ↔ ((ps : Pairs) × (t ≡ tree.map ps)
         × ReadsPairs K.reads V.reads (λ qs n. entries_of n ≡ inserted_in_order K.eq qs)
@@ -163,12 +206,40 @@ pub fn readings_of_maps<K: Deserialize + Ord + Hash, V: Deserialize>(sorted: &BT
         ⟦<BTreeMap<K, V> as Deserialize>⟧.reads t sorted.now ↔ ((ps : Pairs) × (t ≡ tree.map ps)
         × ReadsPairs K.reads V.reads (λ qs n. n.entries ≡ inserted_sorted K.cmp qs)
         (entries_in ps) sorted.now) }
+    ensures hashed { (t : Tree) →
+        ⟦<HashMap<K, V> as Deserialize>⟧.reads t hashed.now ↔ ((ps : Pairs) × (t ≡ tree.map ps)
+        × ReadsPairs K.reads V.reads (IsFromIterResult K.eq) (entries_in ps) hashed.now) }
 {}
 
-/// A lazy value is read from any writable value, as its encoding.
+/// The image of a map is the map of the images of its pairs, in its order. It round-trips if its pairs
+/// do, and its keys stay distinct, or ascending, when they are replaced by keys with the same contents.
+pub fn images_of_maps<K: Deserialize + Ord + Hash, V: Deserialize>(
+    sorted: &BTreeMap<K, V>,
+    hashed: &HashMap<K, V>,
+)
+    ensures ordered { (m : OrderedMap K V) → ⟦<OrderedMap<K, V> as Deserialize>⟧.image m
+        ≡ tree.map (pairs_of (map (λ p. (K.image p.0, V.image p.1)) (entries_of m))) }
+    ensures sorted { ⟦<BTreeMap<K, V> as Deserialize>⟧.image sorted.now
+        ≡ tree.map (pairs_of (map (λ p. (K.image p.0, V.image p.1)) sorted.now.entries)) }
+    ensures hashed { ⟦<HashMap<K, V> as Deserialize>⟧.image hashed.now
+        ≡ tree.map (pairs_of (map (λ p. (K.image p.0, V.image p.1)) hashed.now.entries)) }
+    ensures ordered_restorable { (m : OrderedMap K V) →
+        ⟦<OrderedMap<K, V> as Deserialize>⟧.restorable m
+        ↔ (AllByRecursion (λ p. K.restorable p.0 × V.restorable p.1) (entries_of m)
+        × AreDistinct K.same K.eq (keys_of (entries_of m))) }
+    ensures sorted_restorable { ⟦<BTreeMap<K, V> as Deserialize>⟧.restorable sorted.now
+        ↔ (AllByRecursion (λ p. K.restorable p.0 × V.restorable p.1) sorted.now.entries
+        × Ascend K.same K.cmp (keys_of sorted.now.entries)) }
+    ensures hashed_restorable { ⟦<HashMap<K, V> as Deserialize>⟧.restorable hashed.now
+        ↔ (AllByRecursion (λ p. K.restorable p.0 × V.restorable p.1) hashed.now.entries
+        × AreDistinct K.same K.eq (keys_of hashed.now.entries)) }
+{}
+
+/// A lazy value is read from any writable value, as its encoding. None round-trips.
 pub fn readings_of_lazy_values()
-    ensures { (t : Tree) (bytes : List ℕ) → ⟦<LazyValue as Deserialize>⟧.reads t bytes
+    ensures reads { (t : Tree) (bytes : List ℕ) → ⟦<LazyValue as Deserialize>⟧.reads t bytes
         ↔ ((writable t ≡ true) × (bytes ≡ encoding t)) }
+    ensures restorable { (bytes : List ℕ) → ¬ (⟦<LazyValue as Deserialize>⟧.restorable bytes) }
 {}
 
 /// A descriptor is read from a ulong, its code, or a symbol, its name.
@@ -177,6 +248,9 @@ pub fn readings_of_descriptors()
         ⟦<Descriptor as Deserialize>⟧.reads t d ↔ t ≡ scalar (tree.ulong n) }
     ensures name { (t : Tree) (d : Descriptor) (s : List ℕ) → descriptor_content d ≡ tree.name s →
         ⟦<Descriptor as Deserialize>⟧.reads t d ↔ t ≡ scalar (tree.symbol s) }
+    ensures restorable { (d : Descriptor) → ⟦<Descriptor as Deserialize>⟧.restorable d }
+    ensures image { (d : Descriptor) →
+        ⟦<Descriptor as Deserialize>⟧.reads (⟦<Descriptor as Deserialize>⟧.image d) d }
 {}
 
 /// A described value is read from one with its descriptor, whose value is read.
@@ -186,6 +260,11 @@ pub fn readings_of_described_values<T: Deserialize>()
         × (t ≡ tree.described (descriptor_content x.descriptor) u) × T.reads u x.value) }
     ensures image { (x : Described T) → ⟦<Described<T> as Deserialize>⟧.image x
         ≡ tree.described (descriptor_content x.descriptor) (T.image x.value) }
+    ensures restorable { (x : Described T) → ⟦<Described<T> as Deserialize>⟧.restorable x
+        ↔ T.restorable x.value }
+    ensures same { (x y : Described T) → ⟦<Described<T> as Deserialize>⟧.same x y
+        ↔ ((descriptor_content x.descriptor ≡ descriptor_content y.descriptor)
+        × T.same x.value y.value) }
 {}
 
 /// An untyped value is read from its tree, and round-trips if it is sound.

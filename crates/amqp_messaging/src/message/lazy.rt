@@ -1,8 +1,11 @@
 //! Messages whose body is not decoded.
 
-ghost use Rattle.std.specs.Prelude.{◌≡◌, ◌++◌, [], List, ℕ, IfOk, IfErr};
-ghost use Rattle.amqp_messaging.specs.Messages.{PutsFront, ReadsPart, RefusesMessage};
+ghost use Rattle.std.specs.Prelude.{◌≡◌, ◌⊎◌, ◌++◌, [], List, ℕ, IfOk, IfErr};
+ghost use Rattle.amqp_data.specs.declared.error.Error.{Error};
+ghost use Rattle.amqp_data.specs.declared.error.Error.TheVariants.{OutOfMemory};
+ghost use Rattle.amqp_messaging.specs.Messages.{PutsFront, ReadsPart, RefusesFront, RefusesMessage};
 ghost use Rattle.amqp_messaging.specs.Parts.{IsAround, IsBare};
+ghost use Rattle.amqp_messaging.specs.declared.message.error.MessageError.TheVariants.{Value};
 ghost use Rattle.amqp_messaging.specs.declared.message.kind.SectionKind.{SectionKind};
 
 use crate::annotations::{ApplicationProperties, DeliveryAnnotations, MessageAnnotations};
@@ -86,16 +89,20 @@ impl<'a> LazyMessage<'a> {
     /// and the footer.
     ///
     /// # Errors
-    /// Returns the errors of `to_vec` for a section.
+    /// Returns the error of `to_vec` for the header or the annotations as `Value`.
     ///
     /// # Memory
     /// Allocates the bytes from `alloc`, and what `to_vec` allocates for the header and annotations.
     pub fn to_vec(&self, alloc: Global) -> Result<Vec<u8>, MessageError>
-        ensures { IfOk result (λ v. (front : List ℕ)
+        ensures written { IfOk result (λ v. (front : List ℕ)
             × PutsFront ⟦<Header as Serialize>⟧.tree ⟦<DeliveryAnnotations as Serialize>⟧.tree
             ⟦<MessageAnnotations as Serialize>⟧.tree [] front self.now.header
             self.now.delivery_annotations self.now.message_annotations
             × (v.items ≡ front ++ self.now.bare.now ++ self.now.footer.now)) }
+        ensures refused { IfErr result (λ e. (f : Error) × (e ≡ Value f)
+            × ((f ≡ OutOfMemory) ⊎ RefusesFront ⟦<Header as Serialize>⟧.tree
+            ⟦<DeliveryAnnotations as Serialize>⟧.tree ⟦<MessageAnnotations as Serialize>⟧.tree
+            self.now.header self.now.delivery_annotations self.now.message_annotations f)) }
     {
         let mut out = Vec::new(alloc);
         put_front(

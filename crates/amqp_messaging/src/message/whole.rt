@@ -1,8 +1,11 @@
 //! Messages whose sections are all read.
 
-ghost use Rattle.std.specs.Prelude.{◌≡◌, ◌++◌, [], List, ℕ, IfOk, IfErr};
-ghost use Rattle.amqp_messaging.specs.Messages.{PutsBare, PutsFront, PutsSection, ReadsBody, ReadsPart, RefusesMessage};
+ghost use Rattle.std.specs.Prelude.{◌≡◌, ◌⊎◌, ◌++◌, [], List, ℕ, IfOk, IfErr};
+ghost use Rattle.amqp_data.specs.declared.error.Error.{Error};
+ghost use Rattle.amqp_messaging.specs.Messages.{PutsBare, PutsFront, PutsSection, ReadsBody, ReadsPart};
+ghost use Rattle.amqp_messaging.specs.Messages.{RefusesBare, RefusesFront, RefusesMessage, RefusesSection};
 ghost use Rattle.amqp_messaging.specs.Parts.{IsAround, IsBare};
+ghost use Rattle.amqp_messaging.specs.declared.message.error.MessageError.TheVariants.{Value};
 ghost use Rattle.amqp_messaging.specs.declared.message.kind.SectionKind.{SectionKind};
 
 use crate::annotations::{ApplicationProperties, DeliveryAnnotations, Footer, MessageAnnotations};
@@ -94,18 +97,25 @@ impl Message {
     /// Returns the encoded message.
     ///
     /// # Errors
-    /// Returns the errors of `to_vec` for a section.
+    /// Returns the error of `to_vec` for a section as `Value`.
     ///
     /// # Memory
     /// Allocates the bytes from `alloc`, and what `to_vec` allocates for each section.
     pub fn to_vec(&self, alloc: Global) -> Result<Vec<u8>, MessageError>
-        ensures { IfOk result (λ all. (front bare : List ℕ)
+        ensures written { IfOk result (λ all. (front bare : List ℕ)
             × PutsFront ⟦<Header as Serialize>⟧.tree ⟦<DeliveryAnnotations as Serialize>⟧.tree
             ⟦<MessageAnnotations as Serialize>⟧.tree [] front self.now.header
             self.now.delivery_annotations self.now.message_annotations
             × PutsBare ⟦<Properties as Serialize>⟧.tree ⟦<ApplicationProperties as Serialize>⟧.tree
             ⟦<Body as Serialize>⟧.tree front bare self.now.properties self.now.application_properties
             self.now.body × PutsSection ⟦<Footer as Serialize>⟧.tree bare all.items self.now.footer) }
+        ensures refused { IfErr result (λ e. (f : Error) × (e ≡ Value f)
+            × (RefusesFront ⟦<Header as Serialize>⟧.tree ⟦<DeliveryAnnotations as Serialize>⟧.tree
+            ⟦<MessageAnnotations as Serialize>⟧.tree self.now.header self.now.delivery_annotations
+            self.now.message_annotations f
+            ⊎ RefusesBare ⟦<Properties as Serialize>⟧.tree ⟦<ApplicationProperties as Serialize>⟧.tree
+            ⟦<Body as Serialize>⟧.tree self.now.properties self.now.application_properties self.now.body f
+            ⊎ RefusesSection ⟦<Footer as Serialize>⟧.tree self.now.footer f)) }
     {
         let mut out = Vec::new(alloc);
         put_front(

@@ -1,7 +1,10 @@
 //! Writes sections.
 
-ghost use Rattle.std.specs.Prelude.{◌≡◌, ◌++◌, OnOk};
+ghost use Rattle.std.specs.Prelude.{◌≡◌, ◌++◌, Err, IfErr, OnOk};
+ghost use Rattle.amqp_data.specs.declared.error.Error.TheVariants.{OutOfMemory};
 ghost use Rattle.amqp_messaging.specs.Messages.{PutsBare, PutsFront, PutsSection, PutsTree};
+ghost use Rattle.amqp_messaging.specs.Messages.{RefusesBare, RefusesFront, RefusesSection};
+ghost use Rattle.amqp_ser.specs.SizeAndBytes.{AreBytesOf};
 
 use crate::annotations::{ApplicationProperties, DeliveryAnnotations, MessageAnnotations};
 use crate::header::Header;
@@ -17,7 +20,8 @@ pub(crate) fn put<T: Serialize>(
     out: &mut Vec<u8>,
     section: &Option<T>,
 ) -> Result<(), Error>
-    ensures { OnOk result (PutsSection T.tree out.old.items out.new.items section.now) }
+    ensures puts { OnOk result (PutsSection T.tree out.old.items out.new.items section.now) }
+    ensures refused { IfErr result (RefusesSection T.tree section.now) }
 {
     match section {
         Some(section) => put_section(alloc, out, section),
@@ -32,14 +36,16 @@ pub(crate) fn put_section<T: Serialize>(
     out: &mut Vec<u8>,
     section: &T,
 ) -> Result<(), Error>
-    ensures { OnOk result (PutsTree (T.tree section.now) out.old.items out.new.items) }
+    ensures puts { OnOk result (PutsTree (T.tree section.now) out.old.items out.new.items) }
+    ensures refused { IfErr result (λ e. AreBytesOf (T.tree section.now) (Err e)) }
 {
     append_to(alloc, out, section)
 }
 
 /// Appends bytes.
 pub(crate) fn put_bytes(out: &mut Vec<u8>, bytes: &[u8]) -> Result<(), Error>
-    ensures { OnOk result (out.new.items ≡ out.old.items ++ bytes.now) }
+    ensures puts { OnOk result (out.new.items ≡ out.old.items ++ bytes.now) }
+    ensures refused { IfErr result (λ e. e ≡ OutOfMemory) }
 {
     out.extend_from_slice(bytes)?;
     Ok(())
@@ -53,8 +59,11 @@ pub(crate) fn put_front(
     delivery: &Option<DeliveryAnnotations>,
     message: &Option<MessageAnnotations>,
 ) -> Result<(), Error>
-    ensures { OnOk result (PutsFront ⟦<Header as Serialize>⟧.tree ⟦<DeliveryAnnotations as Serialize>⟧.tree
+    ensures puts { OnOk result (PutsFront ⟦<Header as Serialize>⟧.tree ⟦<DeliveryAnnotations as Serialize>⟧.tree
         ⟦<MessageAnnotations as Serialize>⟧.tree out.old.items out.new.items header.now delivery.now message.now) }
+    ensures refused { IfErr result (RefusesFront ⟦<Header as Serialize>⟧.tree
+        ⟦<DeliveryAnnotations as Serialize>⟧.tree ⟦<MessageAnnotations as Serialize>⟧.tree header.now
+        delivery.now message.now) }
 {
     put(alloc, out, header)?;
     put(alloc, out, delivery)?;
@@ -70,8 +79,11 @@ pub(crate) fn put_bare(
     application: &Option<ApplicationProperties>,
     body: &Body,
 ) -> Result<(), Error>
-    ensures { OnOk result (PutsBare ⟦<Properties as Serialize>⟧.tree ⟦<ApplicationProperties as Serialize>⟧.tree
+    ensures puts { OnOk result (PutsBare ⟦<Properties as Serialize>⟧.tree ⟦<ApplicationProperties as Serialize>⟧.tree
         ⟦<Body as Serialize>⟧.tree out.old.items out.new.items properties.now application.now body.now) }
+    ensures refused { IfErr result (RefusesBare ⟦<Properties as Serialize>⟧.tree
+        ⟦<ApplicationProperties as Serialize>⟧.tree ⟦<Body as Serialize>⟧.tree properties.now application.now
+        body.now) }
 {
     put(alloc, out, properties)?;
     put(alloc, out, application)?;

@@ -7,7 +7,7 @@ ghost use Rattle.std.specs.Option.{option_copied_mut};
 ghost use Rattle.amqp_data.specs.Pairs.{entries_of};
 ghost use Rattle.amqp_value.specs.Accessors.{has_text};
 ghost use Rattle.amqp_value.specs.Contents.{array_in, list_in, map_in};
-ghost use Rattle.amqp_value.specs.ValueLends.{lends_array, lends_list, lends_map};
+ghost use Rattle.amqp_value.specs.ValueLends.{lends_array, lends_list, lends_map, lends_text};
 
 use super::containers::find_position;
 use crate::Value;
@@ -57,5 +57,35 @@ impl Value {
             Value::Map(entries) => Some(entries),
             _ => None,
         }
+    }
+
+    /// Returns a mutable reference to the value of the first key of a map that is a string or a
+    /// symbol with this text.
+    ///
+    /// The keys are searched in order, and nothing is allocated.
+    ///
+    /// # Example
+    /// For the map from the symbol `a` to the ubyte 1, encoded as `c10602a301615001`,
+    /// `*map.get_mut("a")? = Value::Null` gives the map encoded as `c10502a3016140`.
+    pub fn get_mut(&mut self, key: &str) -> Option<&mut Value>
+        ensures { option_copied_mut result ≡ option_and_then
+            (λ map. lookup (has_text key.now) (entries_of map)) (map_in self.old) }
+    {
+        match self {
+            Value::Map(entries) => find_text_mut(entries, key),
+            _ => None,
+        }
+    }
+}
+
+// Lends the value of the first key with this text.
+fn find_text_mut<'a>(entries: &'a mut OrderedMap<Value, Value>, key: &str) -> Option<&'a mut Value>
+    ensures* writes_back { sem 𝓛 (lends_text entries.entry key.now result) }
+    ensures content { option_copied_mut result
+        ≡ lookup (has_text key.now) (entries_of entries.old) }
+{
+    match find_position(entries.as_slice(), key) {
+        Some(at) => entries.value_at_mut(at),
+        None => None,
     }
 }

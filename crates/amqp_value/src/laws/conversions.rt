@@ -1,14 +1,26 @@
 //! Laws of conversions and format codes.
 
-ghost use Rattle.std.specs.Prelude.{◌≡◌, true};
+ghost use Rattle.std.specs.Prelude.{◌≡◌, [], true};
+ghost use Rattle.std.specs.HashMap.{IsFromIterResult};
+ghost use Rattle.indexmap.specs.IndexMap.{insert_all};
+ghost use Rattle.amqp_data.specs.Items.{array_items};
+ghost use Rattle.amqp_data.specs.Pairs.{entries_of};
 ghost use Rattle.amqp_ser.specs.Tree.{Tree, Trees, array, more};
 ghost use Rattle.amqp_ser.specs.Writable.{writable};
 ghost use Rattle.amqp_value.specs.ComesBack.{ComesBack};
+ghost use Rattle.amqp_value.specs.Contents.{array_in, list_in};
+ghost use Rattle.amqp_value.specs.Conversions.{ConvertsEach, ConvertsPairs};
+ghost use Rattle.amqp_value.specs.Converts.{inserted_in_order, inserted_sorted};
 ghost use Rattle.amqp_value.specs.FormatCode.{HasOneCode};
 
 use crate::Value;
-use amqp_data::{ByteBuf, Dec32, Dec64, Dec128, F32Bits, F64Bits, Symbol, Timestamp, Uuid};
+use amqp_data::{
+    Array, ByteBuf, Dec32, Dec64, Dec128, F32Bits, F64Bits, OrderedMap, Symbol, Timestamp, Uuid,
+};
 use amqp_ser::Serialize;
+use indexmap::IndexMap;
+use std::collections::{BTreeMap, HashMap};
+use std::hash::Hash;
 
 /// A scalar round-trips through `From` and `TryFrom`, and the `Value` has the scalar's tree.
 ///
@@ -55,6 +67,41 @@ pub fn scalars_come_back()
         ⟦<String as TryFrom<Value>>⟧.try_from_gives }
     ensures symbols { ComesBack ⟦<Symbol as Serialize>⟧.tree ⟦<Value as From<Symbol>>⟧.from_gives
         ⟦<Symbol as TryFrom<Value>>⟧.try_from_gives }
+{}
+
+/// A list converts to a `Vec`, and an array to an `Array`, whose elements are those of the list or of
+/// the array, converted in order. Any other value is returned unchanged.
+///
+/// # Memory
+/// None.
+pub fn elements_convert<T: TryFrom<Value, Error = Value> + Drop>()
+    ensures lists { ConvertsEach list_in (λ list. list.items) (λ made. made.items)
+        T.try_from_gives ⟦<Vec<T> as TryFrom<Value>>⟧.try_from_gives }
+    ensures arrays { ConvertsEach array_in array_items array_items
+        T.try_from_gives ⟦<Array<T> as TryFrom<Value>>⟧.try_from_gives }
+{}
+
+/// A map converts to a map of converted keys and values, inserted in order. Any other value is
+/// returned unchanged.
+///
+/// # Memory
+/// None.
+pub fn entries_convert<K, V>()
+where
+    K: TryFrom<Value, Error = Value> + Hash + Ord + Drop,
+    V: TryFrom<Value, Error = Value> + Drop,
+    ensures ordered { ConvertsPairs (λ done made. entries_of made ≡ inserted_in_order K.eq done)
+        K.try_from_gives V.try_from_gives
+        ⟦<OrderedMap<K, V> as TryFrom<Value>>⟧.try_from_gives }
+    ensures sorted { ConvertsPairs (λ done made. made.entries ≡ inserted_sorted K.cmp done)
+        K.try_from_gives V.try_from_gives
+        ⟦<BTreeMap<K, V> as TryFrom<Value>>⟧.try_from_gives }
+    ensures indexed { ConvertsPairs (λ done made. made.entries ≡ insert_all K.eq [] done)
+        K.try_from_gives V.try_from_gives
+        ⟦<IndexMap<K, V> as TryFrom<Value>>⟧.try_from_gives }
+    ensures hashed { ConvertsPairs (λ done made. IsFromIterResult K.eq done made)
+        K.try_from_gives V.try_from_gives
+        ⟦<HashMap<K, V> as TryFrom<Value>>⟧.try_from_gives }
 {}
 
 /// The elements of a non-empty writable array, and their images, all have one format code, which is

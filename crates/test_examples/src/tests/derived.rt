@@ -1,6 +1,8 @@
 //! Encodings that are read as a type and written again, and encodings that are refused
 //! (AMQP 1.0 part 1, section 1.6).
 
+mod goods;
+mod lists;
 mod parcels;
 mod stalls;
 
@@ -131,12 +133,18 @@ fn structs_of_one_field_are_that_field(rt: HostRuntime) -> Result<(), Fail> {
 #[test]
 fn variants_are_read_by_their_index(rt: HostRuntime) -> Result<(), Fail> {
     let a = rt.alloc();
-    let point = b"\x43";
-    assert!(rt; gives::<Shape>(a, point, point)? && refuses::<Shape>(a, b"\x52\x04"));
     let circle = b"\xc1\x05\x02\x52\x01\x52\x05";
-    assert!(rt; gives::<Shape>(a, circle, circle)?);
+    assert!(rt; comes_back::<Shape>(a, b"\x43")? && comes_back::<Shape>(a, circle)?);
     let of_two = b"\xc1\x0c\x02\x52\x02\xc0\x07\x02\x60\x00\x01\x60\x00\x02";
-    assert!(rt; gives::<Shape>(a, of_two, of_two)?);
+    let label = b"\xc1\x0a\x02\x52\x03\xc0\x05\x02\xa1\x01x\x40";
+    assert!(rt; comes_back::<Shape>(a, of_two)? && comes_back::<Shape>(a, label)?);
+    let listed = b"\xc0\x05\x02\x52\x01\x52\x05";
+    assert!(rt; gives::<Shape>(a, listed, circle)? && !gives_at_once::<Shape>(a, listed, circle)?);
+    let two = b"\xc1\x07\x04\x52\x01\x52\x05\x43\x40";
+    assert!(rt; refuses::<Shape>(a, b"\x52\x04") && refuses::<Shape>(a, two));
+    let missing = read::<Shape>(a, b"\x52\x01");
+    assert!(rt; matches!(missing, Err(Error::Message("Expecting a value"))));
+    assert!(rt; refuses::<Shape>(a, b"\x53\x00"));
     Ok(())
 }
 

@@ -19,8 +19,8 @@ pub enum Event {
 // amqp: the impls below are written by tools/derive from the annotations above
 use serde_amqp::derive::{
     DataVariant, Deserialize, DeserializeSeed, Deserializer, Either, EnumSeed, FieldSeeds,
-    FieldValues, Global, ListSeed, Never, Record, Required, Serialize, Serializer, VariantOf,
-    fields, named, read, variants,
+    FieldValues, FromParts, GaveUp, Global, ListSeed, Never, Record, Required, Serialize,
+    Serializer, VariantOf, build, build_encoded, fields, named, variants,
 };
 
 impl Serialize for Entry {
@@ -77,6 +77,35 @@ impl Record for Entry {
     ghost parts = { λ x. elim x as (λ _. _) [ variant.Flag v0 v1 ↦ This (v0 ▸ v1 ▸ tt) | variant.Name v0 v1 ↦ Other (This (v0 ▸ v1 ▸ tt)) ] };
 }
 
+impl FromParts for Entry {
+    fn from_parts(
+        parts: Either<
+            <Required<u32, Required<bool, ()>> as FieldSeeds>::Values,
+            Either<<Required<i32, Required<String, ()>> as FieldSeeds>::Values, Never>,
+        >,
+    ) -> Entry {
+        match parts {
+            Either::This(values) => {
+                let FieldValues { value: part0, rest } = values;
+                let FieldValues {
+                    value: part1,
+                    rest: (),
+                } = rest;
+                Entry::Flag(part0, part1)
+            }
+            Either::Other(Either::This(values)) => {
+                let FieldValues { value: part0, rest } = values;
+                let FieldValues {
+                    value: part1,
+                    rest: (),
+                } = rest;
+                Entry::Name(part0, part1)
+            }
+            Either::Other(Either::Other(never)) => match never {},
+        }
+    }
+}
+
 impl Deserialize for Entry {
     ghost use Rattle.std.specs.Prelude.{codes};
     ghost use Rattle.serde_amqp.specs.Derive.{OnFields, ReadsRequired, NoMoreFields, OnEnum, IsDataVariant, IsNoVariant};
@@ -99,29 +128,26 @@ impl Deserialize for Entry {
     ghost same = { λ x y. ⟦<EnumSeed<EntryVariants> as DeserializeSeed>⟧.same (⟦<Entry as Record>⟧.parts x) (⟦<Entry as Record>⟧.parts y) };
 
     fn deserialize<D: Deserializer>(alloc: Global, deserializer: D) -> Result<Entry, D::Error> {
-        match read::<Entry, D, _>(
+        build::<Entry, D, _>(
             alloc,
             deserializer,
             EnumSeed(variants! { named! { "0", "1" }, named! { "0", "1" } }),
-        )? {
-            Either::This(values) => {
-                let FieldValues { value: part0, rest } = values;
-                let FieldValues {
-                    value: part1,
-                    rest: (),
-                } = rest;
-                Ok(Entry::Flag(part0, part1))
-            }
-            Either::Other(Either::This(values)) => {
-                let FieldValues { value: part0, rest } = values;
-                let FieldValues {
-                    value: part1,
-                    rest: (),
-                } = rest;
-                Ok(Entry::Name(part0, part1))
-            }
-            Either::Other(Either::Other(never)) => match never {},
-        }
+        )
+    }
+
+    fn read_encoded(
+        alloc: Global,
+        code: u8,
+        input: &mut &[u8],
+        depth: u16,
+    ) -> Result<Entry, GaveUp> {
+        build_encoded::<Entry, _>(
+            alloc,
+            code,
+            input,
+            depth,
+            EnumSeed(variants! { named! { "0", "1" }, named! { "0", "1" } }),
+        )
     }
 }
 
@@ -179,6 +205,35 @@ impl Record for Event {
     ghost parts = { λ x. elim x as (λ _. _) [ variant.Opened v0 v1 ↦ This (v0 ▸ v1 ▸ tt) | variant.Closed v0 v1 ↦ Other (This (v0 ▸ v1 ▸ tt)) ] };
 }
 
+impl FromParts for Event {
+    fn from_parts(
+        parts: Either<
+            <Required<u32, Required<bool, ()>> as FieldSeeds>::Values,
+            Either<<Required<i32, Required<String, ()>> as FieldSeeds>::Values, Never>,
+        >,
+    ) -> Event {
+        match parts {
+            Either::This(values) => {
+                let FieldValues { value: by, rest } = values;
+                let FieldValues {
+                    value: at_night,
+                    rest: (),
+                } = rest;
+                Event::Opened { by, at_night }
+            }
+            Either::Other(Either::This(values)) => {
+                let FieldValues { value: after, rest } = values;
+                let FieldValues {
+                    value: reason,
+                    rest: (),
+                } = rest;
+                Event::Closed { after, reason }
+            }
+            Either::Other(Either::Other(never)) => match never {},
+        }
+    }
+}
+
 impl Deserialize for Event {
     ghost use Rattle.std.specs.Prelude.{codes};
     ghost use Rattle.serde_amqp.specs.Derive.{OnFields, ReadsRequired, NoMoreFields, OnEnum, IsDataVariant, IsNoVariant};
@@ -201,29 +256,26 @@ impl Deserialize for Event {
     ghost same = { λ x y. ⟦<EnumSeed<EventVariants> as DeserializeSeed>⟧.same (⟦<Event as Record>⟧.parts x) (⟦<Event as Record>⟧.parts y) };
 
     fn deserialize<D: Deserializer>(alloc: Global, deserializer: D) -> Result<Event, D::Error> {
-        match read::<Event, D, _>(
+        build::<Event, D, _>(
             alloc,
             deserializer,
             EnumSeed(variants! { named! { "by", "at_night" }, named! { "after", "reason" } }),
-        )? {
-            Either::This(values) => {
-                let FieldValues { value: by, rest } = values;
-                let FieldValues {
-                    value: at_night,
-                    rest: (),
-                } = rest;
-                Ok(Event::Opened { by, at_night })
-            }
-            Either::Other(Either::This(values)) => {
-                let FieldValues { value: after, rest } = values;
-                let FieldValues {
-                    value: reason,
-                    rest: (),
-                } = rest;
-                Ok(Event::Closed { after, reason })
-            }
-            Either::Other(Either::Other(never)) => match never {},
-        }
+        )
+    }
+
+    fn read_encoded(
+        alloc: Global,
+        code: u8,
+        input: &mut &[u8],
+        depth: u16,
+    ) -> Result<Event, GaveUp> {
+        build_encoded::<Event, _>(
+            alloc,
+            code,
+            input,
+            depth,
+            EnumSeed(variants! { named! { "by", "at_night" }, named! { "after", "reason" } }),
+        )
     }
 }
 // amqp: end of the impls

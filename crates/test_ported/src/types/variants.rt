@@ -19,9 +19,9 @@ pub enum Key {
 
 // amqp: the impls below are written by tools/derive from the annotations above
 use serde_amqp::derive::{
-    DataVariant, Deserialize, DeserializeSeed, Deserializer, Either, EnumSeed, Global, Never,
-    Record, Serialize, SerializeCompounds, SerializeScalars, Serializer, TypeSeed, UnitVariant,
-    read, variants,
+    DataVariant, Deserialize, DeserializeSeed, Deserializer, Either, EnumSeed, FromParts, GaveUp,
+    Global, Never, Record, Serialize, SerializeCompounds, SerializeScalars, Serializer, TypeSeed,
+    UnitVariant, build, build_encoded, variants,
 };
 
 impl Serialize for Light {
@@ -52,6 +52,17 @@ impl Record for Light {
     ghost parts = { λ x. elim x as (λ _. _) [ variant.Red ↦ This tt | variant.Amber ↦ Other (This tt) | variant.Green ↦ Other (Other (This tt)) ] };
 }
 
+impl FromParts for Light {
+    fn from_parts(parts: Either<(), Either<(), Either<(), Never>>>) -> Light {
+        match parts {
+            Either::This(()) => Light::Red,
+            Either::Other(Either::This(())) => Light::Amber,
+            Either::Other(Either::Other(Either::This(()))) => Light::Green,
+            Either::Other(Either::Other(Either::Other(never))) => match never {},
+        }
+    }
+}
+
 impl Deserialize for Light {
     ghost use Rattle.serde_amqp.specs.Derive.{OnEnum, IsUnitVariant, IsNoVariant};
 
@@ -68,16 +79,26 @@ impl Deserialize for Light {
     ghost same = { λ x y. ⟦<EnumSeed<LightVariants> as DeserializeSeed>⟧.same (⟦<Light as Record>⟧.parts x) (⟦<Light as Record>⟧.parts y) };
 
     fn deserialize<D: Deserializer>(alloc: Global, deserializer: D) -> Result<Light, D::Error> {
-        match read::<Light, D, _>(
+        build::<Light, D, _>(
             alloc,
             deserializer,
             EnumSeed(variants! { unit, unit, unit }),
-        )? {
-            Either::This(()) => Ok(Light::Red),
-            Either::Other(Either::This(())) => Ok(Light::Amber),
-            Either::Other(Either::Other(Either::This(()))) => Ok(Light::Green),
-            Either::Other(Either::Other(Either::Other(never))) => match never {},
-        }
+        )
+    }
+
+    fn read_encoded(
+        alloc: Global,
+        code: u8,
+        input: &mut &[u8],
+        depth: u16,
+    ) -> Result<Light, GaveUp> {
+        build_encoded::<Light, _>(
+            alloc,
+            code,
+            input,
+            depth,
+            EnumSeed(variants! { unit, unit, unit }),
+        )
     }
 }
 
@@ -108,6 +129,16 @@ impl Record for Key {
     ghost parts = { λ x. elim x as (λ _. _) [ variant.Text v0 ↦ This v0 | variant.Number v0 ↦ Other (This v0) ] };
 }
 
+impl FromParts for Key {
+    fn from_parts(parts: Either<String, Either<u64, Never>>) -> Key {
+        match parts {
+            Either::This(value) => Key::Text(value),
+            Either::Other(Either::This(value)) => Key::Number(value),
+            Either::Other(Either::Other(never)) => match never {},
+        }
+    }
+}
+
 impl Deserialize for Key {
     ghost use Rattle.serde_amqp.specs.Derive.{OnEnum, IsDataVariant, IsNoVariant};
 
@@ -123,15 +154,21 @@ impl Deserialize for Key {
     ghost same = { λ x y. ⟦<EnumSeed<KeyVariants> as DeserializeSeed>⟧.same (⟦<Key as Record>⟧.parts x) (⟦<Key as Record>⟧.parts y) };
 
     fn deserialize<D: Deserializer>(alloc: Global, deserializer: D) -> Result<Key, D::Error> {
-        match read::<Key, D, _>(
+        build::<Key, D, _>(
             alloc,
             deserializer,
             EnumSeed(variants! { newtype, newtype }),
-        )? {
-            Either::This(value) => Ok(Key::Text(value)),
-            Either::Other(Either::This(value)) => Ok(Key::Number(value)),
-            Either::Other(Either::Other(never)) => match never {},
-        }
+        )
+    }
+
+    fn read_encoded(alloc: Global, code: u8, input: &mut &[u8], depth: u16) -> Result<Key, GaveUp> {
+        build_encoded::<Key, _>(
+            alloc,
+            code,
+            input,
+            depth,
+            EnumSeed(variants! { newtype, newtype }),
+        )
     }
 }
 // amqp: end of the impls

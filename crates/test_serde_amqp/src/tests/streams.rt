@@ -1,4 +1,5 @@
-//! Readers and writers of one byte per call, one call of which fails; and a buffered writer.
+//! Readers and writers of one byte per call, one call of which fails; a buffered writer; and a
+//! reader and a writer that count the calls.
 
 ghost use Rattle.std.specs.Prelude.{Some};
 
@@ -108,6 +109,39 @@ impl io::Write for FlushedWriter<'_> {
         }
         self.written.extend_from_slice(&self.buffer)?;
         self.buffer.clear();
+        Ok(())
+    }
+}
+
+/// Reader of all bytes that are asked for. Counts the calls.
+#[derive(Drop)]
+pub struct CountedReader<'a> {
+    pub rest: &'a [u8],
+    pub calls: &'a mut u64,
+}
+
+impl io::Read for CountedReader<'_> {
+    ghost remaining = { λ r. Some r.rest.now };
+
+    fn read(&mut self, buf: &mut [u8]) -> io::Result<usize> {
+        *self.calls = self.calls.saturating_add(1);
+        self.rest.read(buf)
+    }
+}
+
+/// Writer of all bytes that are handed to it. Counts the calls, and keeps none of the bytes.
+#[derive(Drop)]
+pub struct CountedWriter<'a> {
+    pub calls: &'a mut u64,
+}
+
+impl io::Write for CountedWriter<'_> {
+    fn write(&mut self, buf: &[u8]) -> io::Result<usize> {
+        *self.calls = self.calls.saturating_add(1);
+        Ok(buf.len())
+    }
+
+    fn flush(&mut self) -> io::Result<()> {
         Ok(())
     }
 }

@@ -1,8 +1,7 @@
 //! A receiver that reads the sections of messages as types from their bytes. The body stays
 //! undecoded.
 
-use super::{add_header, add_properties, content, encoded};
-use crate::places::Marked;
+use super::{add_header, add_properties, content};
 use crate::sections::{Header, Properties};
 use serde_amqp::de::Deserialize;
 use serde_amqp::described::Described;
@@ -12,6 +11,8 @@ use serde_amqp::read::{IoReader, Read};
 use serde_amqp::{Error, Value, from_slice};
 use std::alloc::Global;
 use std::io::BufReader;
+use tool_shapes::places::Marked;
+use tool_shapes::received::encoded;
 use tool_shapes::{Digest, Random};
 
 /// The application properties after their descriptor.

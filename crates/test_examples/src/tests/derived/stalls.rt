@@ -1,7 +1,8 @@
-//! A map that is read after its code or its name, and a value of one field after a code.
+//! A map that is read after its code or its name, and values of one field after a code, and after a
+//! name.
 
 use super::{comes_back, gives, gives_at_once, refuses};
-use example_derived::{Price, Stall};
+use example_derived::{Colour, Price, Stall};
 use std::test::Fail;
 
 #[test]
@@ -49,12 +50,16 @@ fn maps_are_read_after_their_code_or_their_name(rt: HostRuntime) -> Result<(), F
 }
 
 #[test]
-fn a_single_value_is_read_after_its_descriptor(rt: HostRuntime) -> Result<(), Fail> {
+fn single_values_are_read_after_their_descriptor(rt: HostRuntime) -> Result<(), Fail> {
     let a = rt.alloc();
     assert!(rt; comes_back::<Price>(a, b"\x00\x53\x22\x53\x07")?);
     assert!(rt; refuses::<Price>(a, b"\x00\x53\x21\x53\x07") && refuses::<Price>(a, b"\x53\x07"));
     assert!(rt;
         refuses::<Price>(a, b"\x00\x53\x22\x52\x07") && refuses::<Price>(a, b"\x00\x53\x22\x40")
     );
+    assert!(rt; comes_back::<Colour>(a, b"\x00\xa3\x0bshop:colour\xa3\x03red")?);
+    assert!(rt; refuses::<Colour>(a, b"\x00\xa3\x0bshop:Colour\xa3\x03red"));
+    assert!(rt; refuses::<Colour>(a, b"\x00\xa3\x0bshop:colour\xa1\x03red"));
+    assert!(rt; refuses::<Colour>(a, b"\x00\x53\x22\xa3\x03red"));
     Ok(())
 }

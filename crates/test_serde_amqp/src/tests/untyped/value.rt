@@ -31,5 +31,7 @@ fn laws_can_be_called(_rt: HostRuntime) {
     laws::bits_compare_as_unsigned_numbers();
     laws::described_values_come_before_null();
     laws::scalars_come_back();
+    laws::elements_convert::<u8>();
+    laws::entries_convert::<u8, bool>();
     laws::elements_have_one_format_code();
 }

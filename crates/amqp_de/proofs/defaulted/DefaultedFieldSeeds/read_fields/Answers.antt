@@ -1,12 +1,11 @@
-use Rattle.std.proofs.Common.{suc, ap, ◌∙◌}
+use Rattle.std.proofs.Common.{suc}
 use Rattle.amqp_decode.specs.Parsed.{parse}
-use Rattle.amqp_de.proofs.DefaultedReadings.{defaulted_fill}
+use Rattle.amqp_de.proofs.NextFields.{defaulted_next}
 use Rattle.amqp_de.proofs.defaulted.DefaultedFieldSeeds.read_fields.Goals as goal
 
 pub returns : goal.returns
 returns g c =
-    let (t, found, read) = c.in_ok-value.ensures in
-    defaulted_fill c.args.self.now.name.now c.args.self.now.default g.V.Deserialize.reads g.V.Deserialize.image g.V.Deserialize.restorable g.V.Deserialize.same
+    defaulted_next c.args.self.now.name.now c.args.self.now.default g.V.Deserialize.reads g.V.Deserialize.image g.V.Deserialize.restorable g.V.Deserialize.same
     (g.R.FieldSeeds.reads c.args.self.now.rest) g.R.FieldSeeds.images g.R.FieldSeeds.restorable g.R.FieldSeeds.same
-    (parse (suc c.args.depth)) c.args.count c.args.body.now _ t c.in_ok-value.value c.in_ok-others-2.others c.if-count-eq0.false
-    (ap (parse (suc c.args.depth)) c.in_ok-code.ensures ∙ found) read c.in_ok-others-2.ensures
+    (parse (suc c.args.depth)) c.args.count c.args.body.now _ _ c.in_ok-value.value c.in_ok-others.others
+    c.in_ok-value.ensures c.in_ok-others.ensures

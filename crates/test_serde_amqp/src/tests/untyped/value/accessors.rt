@@ -103,6 +103,9 @@ fn containers(rt: &HostRuntime) -> Result<bool, Error> {
 
 fn changes(rt: &HostRuntime) -> Result<bool, Error> {
     let mut pairs = entries(rt)?;
+    if let Some(value) = pairs.get_mut("b") {
+        *value = Value::Ubyte(5);
+    }
     if let Some(map) = pairs.as_map_mut() {
         if let Some(value) = map.get_mut(&Value::Ubyte(1)) {
             *value = Value::Bool(true);
@@ -118,12 +121,14 @@ fn changes(rt: &HostRuntime) -> Result<bool, Error> {
         [
             (Value::Ubyte(1), Value::Bool(true)),
             (symbol(rt, "a")?, Value::Ubyte(2)),
-            (string(rt, "b")?, Value::Ubyte(4)),
+            (string(rt, "b")?, Value::Ubyte(5)),
         ],
     );
     Ok(
         is(rt, "changed map", &pairs, &expected)
-            & is(rt, "changed list", &items, &list(rt, [Value::Ubyte(1)])),
+            & is(rt, "changed list", &items, &list(rt, [Value::Ubyte(1)]))
+            & is(rt, "text of a list", &items.get_mut("a").is_none(), &true)
+            & is(rt, "no such text", &pairs.get_mut("c").is_none(), &true),
     )
 }
 

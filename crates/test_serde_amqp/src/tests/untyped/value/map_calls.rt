@@ -78,6 +78,34 @@ fn names(rt: &HostRuntime) -> Result<bool, Error> {
     )
 }
 
+fn count(counts: &mut OrderedMap<u8, u8>, number: u8) -> Result<(), Error> {
+    let count = counts.entry(number).or_insert(0)?;
+    *count = count.saturating_add(1);
+    Ok(())
+}
+
+fn counted(rt: &HostRuntime) -> Result<bool, Error> {
+    let mut counts = OrderedMap::new(rt.alloc());
+    count(&mut counts, 3)?;
+    count(&mut counts, 1)?;
+    count(&mut counts, 3)?;
+    *counts.entry(1).or_insert_with(|| 8)? = 5;
+    let made = *counts.entry(2).or_insert_with(|| 9)?;
+    let entry = counts.entry(3);
+    let looked = finds(rt, "get of an entry", entry.get(), &2)
+        & is(rt, "key of an entry", entry.key(), &3)
+        & is(rt, "made value", &made, &9);
+    Ok(
+        looked
+            & is(
+                rt,
+                "counts",
+                &counts.as_slice(),
+                &[(3, 2), (1, 5), (2, 9)].as_slice(),
+            ),
+    )
+}
+
 fn maps(rt: &HostRuntime) -> Result<bool, Error> {
     let mut all = numbered(rt, [3, 1, 2]);
     let found = are_found(rt, &all)?;
@@ -98,7 +126,7 @@ fn maps(rt: &HostRuntime) -> Result<bool, Error> {
             (Value::Ubyte(5), Value::Null),
         ],
     );
-    Ok(found & names(rt)? & is(rt, "changed map", &all, &expected))
+    Ok(found & names(rt)? & counted(rt)? & is(rt, "changed map", &all, &expected))
 }
 
 fn uuids(rt: &HostRuntime) -> bool {
