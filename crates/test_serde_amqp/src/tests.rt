@@ -17,4 +17,5 @@ mod record_paths;
 mod rows;
 mod runs;
 mod streams;
+mod untyped;
 mod value_compounds;
