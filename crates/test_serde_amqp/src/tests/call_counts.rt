@@ -10,17 +10,17 @@ use std::alloc::Global;
 
 // Returns 10,000 letters, or the binary of them.
 fn letters(alloc: Global, header: &[u8]) -> Result<Vec<u8>, Error> {
-    let mut bytes = Vec::new(alloc);
-    bytes.extend_from_slice(header)?;
-    bytes.extend_from_slice(&Vec::from_elem(alloc, b'a', 10_000)?)?;
+    let body = Vec::from_elem(alloc, b'a', 10_000)?;
+    let mut bytes = Vec::from_slice(alloc, header)?;
+    bytes.extend_from_slice(&body)?;
     Ok(bytes)
 }
 
 // The header of a binary of 10,000 bytes.
 const BINARY: &[u8] = b"\xb0\x00\x00\x27\x10";
 
-// Returns whether the run reads and writes this often.
-fn run_counts(rt: &HostRuntime, run: Run, input: &[u8], wanted: &str) -> bool {
+// Returns whether the run reads at most this often, and writes once.
+fn is_brief(rt: &HostRuntime, run: Run, input: &[u8], most: u64) -> bool {
     let mut reads = 0;
     let mut writes = 0;
     let mut reader = IoReader::new(CountedReader {
@@ -31,15 +31,15 @@ fn run_counts(rt: &HostRuntime, run: Run, input: &[u8], wanted: &str) -> bool {
     let got = run_over(rt.alloc(), run, &mut reader, &mut writer);
     drop(reader);
     drop(writer);
-    is(rt, "a run", got, "Ok(())") && is(rt, "reads and writes", (reads, writes), wanted)
+    is(rt, "a run", got, "Ok(())")
+        && is(rt, "writes", writes, "1")
+        && (reads <= most || is(rt, "reads", reads, "fewer"))
 }
 
-fn runs_count(rt: &HostRuntime) -> Result<bool, Error> {
-    let alloc = rt.alloc();
-    Ok(
-        run_counts(rt, Run::Cut, &letters(alloc, BINARY)?, "(6, 1)")
-            && run_counts(rt, Run::Lines, &letters(alloc, b"")?, "(0, 0)"),
-    )
+fn are_runs_brief(rt: &HostRuntime) -> Result<bool, Error> {
+    let binary = letters(rt.alloc(), BINARY)?;
+    let line = letters(rt.alloc(), b"")?;
+    Ok(is_brief(rt, Run::Cut, &binary, 6) && is_brief(rt, Run::Lines, &line, 40))
 }
 
 /// A call that reads one encoded value.
@@ -66,7 +66,7 @@ fn call_over(alloc: Global, call: Call, reader: &mut IoReader<CountedReader<'_>>
 }
 
 // Returns whether each call reads the code, the size and three pieces.
-fn calls_count(rt: &HostRuntime) -> Result<bool, Error> {
+fn are_calls_brief(rt: &HostRuntime) -> Result<bool, Error> {
     let input = letters(rt.alloc(), BINARY)?;
     let mut all = true;
     for call in CALLS {
@@ -84,6 +84,6 @@ fn calls_count(rt: &HostRuntime) -> Result<bool, Error> {
 
 #[test]
 fn call_counts(rt: HostRuntime) {
-    assert!(rt; hold(&rt, "runs", runs_count(&rt)), "runs");
-    assert!(rt; hold(&rt, "calls", calls_count(&rt)), "calls");
+    assert!(rt; hold(&rt, "runs", are_runs_brief(&rt)), "runs");
+    assert!(rt; hold(&rt, "calls", are_calls_brief(&rt)), "calls");
 }
