@@ -3,9 +3,9 @@
     python3 tools/memory_counts.py SHIM [--write]    SHIM is tools/refuse_alloc.c, compiled
 
 A line of tools/memory_counts.txt has the number of requests for memory, the bytes that they ask for in all, and what makes them:
-a line of the part `calls` or `large` of tool_memory, or a row of crates/tool_memory/rows or optional_rows. A line or a row that
-makes more requests, or asks for more bytes, fails, as does one that the file does not have. Less passes: --write notes it, and
-what is new. A row is run alone, and what the program takes without it is subtracted.
+a line of the part `calls` or `large` of tool_memory, or a row of crates/tool_memory/rows or optional_rows or of `COUNTED`. A line
+or a row that makes more requests, or asks for more bytes, fails, as does one that the file does not have. Less passes: --write
+notes it, and what is new. A row is run alone, and what the program takes without it is subtracted.
 
 Each line and each row must free what it took.
 
@@ -46,16 +46,40 @@ def numbered(n):
     return f"{header('d1', 6 * n, 2 * n)}+7000000000+4170#{n - 1}+41"
 
 
+def equal_keys(n):
+    """A map of one key with many values, of which the last one remains."""
+    return f"{header('d1', 5 * n, 2 * n)}+5001a10161*{n}"
+
+
+def parts(code, constructor, part):
+    """A list of equal parts, or an array of them after their constructor."""
+    return lambda n: f"{header(code, len(constructor) // 2 + n * len(part) // 2, n)}{'+' if constructor else ''}{constructor}+{part}*{n}"
+
+
 def text(code):
     """A binary, string or symbol."""
     return lambda n: f"{code}{n:08x}+61*{n}"
 
 
+LONG_KEY = "a040" + "00" * 60
+# Rows that are counted, and of which no request is refused. Some answer invalid, and free what they read before; the map has long
+# keys, the first one once more at its end; and the value has nine descriptors.
+COUNTED = [
+    "cut 0080000000000000007545",
+    "decode c004015001ff",
+    "read String a00161",
+    f"decode {header('d1', 41 * 67, 82)}+{LONG_KEY}00000000+41{LONG_KEY}#39+41{LONG_KEY}0000000041",
+    f"after {''.join(f'00530{n}' for n in range(1, 10))}a10161",
+]
 # The call of the row, the value by the number of its parts, and how many requests of each call are allowed for each part.
 GROWTH = [
     ("decode", scalars("d0", "5001"), 0),
     ("decode", array("7100000001"), 0),
     ("decode", numbered, 0),
+    ("decode", equal_keys, 1),
+    ("decode", parts("f0", "b1", "0000000161"), 1),
+    ("decode", parts("f0", "c0", "03015001"), 1),
+    ("decode", parts("d0", "", "c003015001"), 1),
     ("decode", text("b0"), 0),
     ("decode", text("b1"), 0),
     ("hold", scalars("d0", "5001"), 0),
@@ -69,6 +93,9 @@ GROWTH = [
     ("read Vec<u32>", scalars("d0", "7000000100"), 0),
     ("read Array<u8>", array("5001"), 0),
     ("read Array<u32>", array("7000000100"), 0),
+    ("read Vec<String>", parts("d0", "", "a10161"), 2),
+    ("read Vec<LazyValue>", parts("d0", "", "5001"), 2),
+    ("read Array<String>", parts("f0", "b1", "0000000161"), 2),
     ("read TransparentVec<bool>", scalars("d0", "41"), 0),
     ("read String", text("b1"), 0),
     ("read Symbol", text("b3"), 0),
@@ -107,7 +134,7 @@ def taken():
     for name in ("rows", "optional_rows"):
         for row in (ROOT / "crates/tool_memory" / name).read_text().splitlines():
             found[row] = of_row(row)
-    return found
+    return found | {row: of_row(row) for row in COUNTED}
 
 
 def known():
