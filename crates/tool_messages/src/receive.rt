@@ -143,7 +143,7 @@ fn add_header(header: &Header, digest: &mut Digest) {
 
 fn add_annotations(annotations: &MessageAnnotations, digest: &mut Digest) {
     digest.number(annotations.0.len() as u64);
-    for (key, value) in &annotations.0 {
+    for (key, value) in annotations.0.iter() {
         match key {
             AnnotationKey::Symbol(name) => digest.bytes(name.as_inner().as_bytes()),
             AnnotationKey::Ulong(number) => digest.number(*number),
@@ -153,7 +153,7 @@ fn add_annotations(annotations: &MessageAnnotations, digest: &mut Digest) {
 }
 
 fn add_entries(map: &OrderedMap<String, Value>, digest: &mut Digest) {
-    for (key, value) in map {
+    for (key, value) in map.iter() {
         digest.bytes(key.as_bytes());
         digest.scalar(value);
     }
