@@ -3,7 +3,7 @@
 A call takes memory
 
 - where an allocator is passed to it,
-- where it may be refused and its comment names `OutOfMemory` or `ConvertFault::Memory`, or says "out of memory",
+- where it may be refused and its comment names `OutOfMemory`, `AllocError` or `ConvertFault::Memory`, or says "out of memory",
 - where it may be refused as another call of its trait that takes memory, so its comment says,
 - where it feeds a serializer, or ends what was fed: so much as the serializer takes.
 
@@ -77,7 +77,7 @@ def takes_memory(signature, comment):
         return True
     if "Result" not in answer:
         return False
-    if re.search(r"OutOfMemory|ConvertFault::Memory|out of memory", comment):
+    if re.search(r"OutOfMemory|AllocError|ConvertFault::Memory|out of memory", comment):
         return True
     return feeds(arguments, answer)
 

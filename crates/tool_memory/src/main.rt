@@ -53,6 +53,7 @@
 //! | the same | `FieldSeeds::read_elements`, `Required::read_elements`, `Optional::read_elements`, `Elements::new` |
 //! | the same | `FieldSeeds::read_entries`, `Required::read_entries`, `Optional::read_entries`, `Entries::new`, `DeserializeSeed::deserialize` |
 //! | the same | `Variants::deserialize`, `EnumSeed::deserialize`, `UnitVariant::deserialize`, `DataVariant::deserialize` |
+//! | the same | `Variants::read_value`, `EnumSeed::read_encoded`, `UnitVariant::read_value`, `DataVariant::read_value` |
 //! | none, since it is `read_composite_encoded` with another descriptor | `read_described_encoded` |
 //! | calls of a serializer | `Serializer::serialize_str`, `Serializer::serialize_bytes`, `SerializeCompounds::serialize_some` |
 //! | the same | `SerializeCompounds::serialize_newtype_struct`, `SerializeCompounds::serialize_newtype_variant` |
