@@ -10,7 +10,9 @@ ghost use Rattle.amqp_data.specs.Lends.{lends_vec, lends_items};
 
 use crate::Error;
 use std::alloc::{AllocError, Global};
+use std::convert::AsMut;
 use std::iter::FromIterator;
+use std::ops::{Deref, DerefMut};
 use std::{slice, vec};
 
 /// Elements that are written one after another, with no header of their own.
@@ -166,6 +168,49 @@ impl<T: Drop> FromIterator<T> for TransparentVec<T> {
     ) -> Result<TransparentVec<T>, AllocError> {
         let items = Vec::from_iter(alloc, iter)?;
         Ok(TransparentVec(items))
+    }
+}
+
+/// Dereferences to the vector of the elements.
+///
+/// # Example
+/// For the transparent vector encoded as `414241`, `vector[1]` is `false` and `vector.first()` is
+/// `Some(&true)`.
+impl<T> Deref for TransparentVec<T> {
+    type Target = Vec<T>;
+
+    ghost deref_gives = { λ vector items. items.items ≡ transparent_items vector };
+
+    fn deref(&self) -> &Vec<T> {
+        &self.0
+    }
+}
+
+/// Dereferences to the vector of the elements.
+///
+/// # Example
+/// After `vector.push(false)`, the transparent vector encoded as `41` is encoded as `4142`.
+impl<T> DerefMut for TransparentVec<T> {
+    ghost deref_mut_gives = { λ vector items. items.items ≡ transparent_items vector };
+
+    fn deref_mut(&mut self) -> &mut Vec<T>
+        ensures* writes_back { sem 𝓛 (lends_vec T.row self.entry result) }
+        ensures shows { result.now.items ≡ transparent_items self.old }
+    {
+        self.as_mut()
+    }
+}
+
+/// Returns a mutable reference to the vector of the elements, as the method `as_mut` does.
+///
+/// # Example
+/// For the transparent vector encoded as `41`, returns the vector of `true`.
+impl<T> AsMut<Vec<T>> for TransparentVec<T> {
+    fn as_mut(&mut self) -> &mut Vec<T>
+        ensures* writes_back { sem 𝓛 (lends_vec T.row self.entry result) }
+        ensures items { result.now.items ≡ transparent_items self.old }
+    {
+        TransparentVec::as_mut(self)
     }
 }
 

@@ -189,9 +189,17 @@ fn vector_of(rt: &HostRuntime) -> Option<TransparentVec<u8>> {
     Some(TransparentVec::new(vector(rt, [1, 2])?))
 }
 
+// By its method, as a `Vec`, and by the trait.
+fn push_to(vector: &mut TransparentVec<u8>, item: u8) -> Option<()> {
+    vector.as_mut().push(item).ok()?;
+    vector.push(item).ok()?;
+    let items: &mut Vec<u8> = AsMut::as_mut(vector);
+    items.pop().map(|_| ())
+}
+
 fn changed(rt: &HostRuntime) -> Option<TransparentVec<u8>> {
     let mut vector = vector_of(rt)?;
-    vector.as_mut().push(3).ok()?;
+    push_to(&mut vector, 3)?;
     for item in vector.iter_mut() {
         *item = *item % 100 + 10;
     }
@@ -236,7 +244,10 @@ fn taken_items(rt: &HostRuntime, items: Option<Vec<u8>>) -> bool {
 
 fn made_vector(rt: &HostRuntime, vector: Option<TransparentVec<u8>>) -> bool {
     match vector {
-        Some(vector) => slice_is(rt, "as_slice of a vector", vector.as_slice(), &[1, 2]),
+        Some(vector) => {
+            slice_is(rt, "as_slice of a vector", vector.as_slice(), &[1, 2])
+                && is(rt, "first of a vector", vector.first().copied(), Some(1))
+        }
         None => false,
     }
 }
