@@ -2,7 +2,7 @@
 
 ghost use Rattle.amqp_wire.specs.Appended.{AppendsBytesOf};
 
-use crate::encode::unless_refused;
+use crate::encode::{measure, unless_refused, write};
 use crate::measurer::Measurer;
 use crate::writer::Writer;
 use amqp_data::Error;
@@ -37,15 +37,14 @@ pub fn append<T: Serialize>(
 {
     let mut table = mem::replace(headers, Vec::new(alloc));
     table.clear();
-    let mut measurer = Measurer::with_headers(table);
-    let answer = value.serialize(&mut measurer);
+    let (measurer, answer) = measure(Measurer::with_headers(table), value);
     let answer = unless_refused(&measurer, answer);
     *headers = measurer.into_headers();
     let len = answer?;
     out.reserve(len)?;
     let table = mem::replace(headers, Vec::new(alloc));
-    let mut writer = Writer::new(table, mem::replace(out, Vec::new(alloc)));
-    let written = value.serialize(&mut writer);
+    let buffer = mem::replace(out, Vec::new(alloc));
+    let (writer, written) = write(Writer::new(table, buffer), value);
     let is_whole = writer.is_whole();
     let (table, bytes) = writer.into_parts();
     *headers = table;

@@ -3,6 +3,8 @@
 ghost use Rattle.std.specs.Prelude.{◌≡◌, Err, true, false};
 ghost use Rattle.amqp_ser.specs.SizeAndBytes.{AreBytesOf};
 ghost use Rattle.amqp_wire.specs.ResultBytes.{result_bytes};
+ghost use Rattle.amqp_wire.specs.Measurer.{MeasurerPermits};
+ghost use Rattle.amqp_wire.specs.Writer.{WriterPermits};
 
 use crate::measurer::Measurer;
 use crate::writer::Writer;
@@ -32,16 +34,38 @@ use std::alloc::Global;
 pub fn to_vec<T: Serialize>(alloc: Global, value: &T) -> Result<Vec<u8>, Error>
     ensures { AreBytesOf (T.tree value.now) (result_bytes result) }
 {
-    let mut measurer = Measurer::new(alloc);
-    let answer = value.serialize(&mut measurer);
+    let (measurer, answer) = measure(Measurer::new(alloc), value);
     let len = unless_refused(&measurer, answer)?;
     let out = Vec::with_capacity(alloc, len)?;
-    let mut writer = Writer::new(measurer.into_headers(), out);
-    value.serialize(&mut writer)?;
+    let (writer, written) = write(Writer::new(measurer.into_headers(), out), value);
+    written?;
     if !writer.is_whole() {
         return Err(Error::InvalidValue);
     }
     Ok(writer.into_bytes())
+}
+
+// The first pass. The code of `serialize` is in line in the function that alone calls it: so each
+// pass has one call of it, whichever calls a program uses.
+pub(crate) fn measure<T: Serialize>(
+    mut measurer: Measurer,
+    value: &T,
+) -> (Measurer, Result<usize, SizeError>)
+    ensures { MeasurerPermits measurer (T.tree value.now) result.1 result.0 }
+{
+    let answer = value.serialize(&mut measurer);
+    (measurer, answer)
+}
+
+// The second pass, likewise.
+pub(crate) fn write<T: Serialize>(
+    mut writer: Writer,
+    value: &T,
+) -> (Writer, Result<(), SizeError>)
+    ensures { WriterPermits writer (T.tree value.now) result.1 result.0 }
+{
+    let written = value.serialize(&mut writer);
+    (writer, written)
 }
 
 // Returns `OutOfMemory` if the table ever failed to grow; otherwise the result of the first pass.
