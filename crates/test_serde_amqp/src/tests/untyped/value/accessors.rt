@@ -132,6 +132,36 @@ fn changes(rt: &HostRuntime) -> Result<bool, Error> {
     )
 }
 
+// Of equal values, only that of the first key with the text changes.
+fn one_of_equal_values(rt: &HostRuntime) -> Result<bool, Error> {
+    let seven = Value::Ubyte(7);
+    let mut pairs = map(
+        rt,
+        [
+            (symbol(rt, "a")?, seven.clone()?),
+            (string(rt, "a")?, seven.clone()?),
+            (string(rt, "b")?, seven.clone()?),
+            (string(rt, "c")?, seven.clone()?),
+        ],
+    );
+    if let Some(value) = pairs.get_mut("a") {
+        *value = Value::Null;
+    }
+    if let Some(value) = pairs.get_mut("c") {
+        *value = Value::Bool(true);
+    }
+    let expected = map(
+        rt,
+        [
+            (symbol(rt, "a")?, Value::Null),
+            (string(rt, "a")?, seven.clone()?),
+            (string(rt, "b")?, seven),
+            (string(rt, "c")?, Value::Bool(true)),
+        ],
+    );
+    Ok(is(rt, "changed texts", &pairs, &expected))
+}
+
 fn clones(rt: &HostRuntime) -> Result<bool, Error> {
     let alloc = rt.alloc();
     let described = Described {
@@ -162,6 +192,7 @@ fn accessors_return_the_content(rt: HostRuntime) -> Result<(), Fail> {
     assert!(rt; gives(&rt, "texts", &texts(&rt), &true));
     assert!(rt; gives(&rt, "containers", &containers(&rt), &true));
     assert!(rt; gives(&rt, "changes", &changes(&rt), &true));
+    assert!(rt; gives(&rt, "equal values", &one_of_equal_values(&rt), &true));
     assert!(rt; gives(&rt, "clones", &clones(&rt), &true));
     Ok(())
 }
