@@ -63,11 +63,14 @@ def text(code):
 
 LONG_KEY = "a040" + "00" * 60
 # Rows that are counted, and of which no request is refused. Some answer invalid, and free what they read before, as the string that is
-# no descriptor; the map has long keys, the first one once more at its end; and the value has nine descriptors.
+# no descriptor; one map has a key twice, whose first value is a string; the other has long keys, the first one once more at its end; and
+# two values have four and nine descriptors.
 COUNTED = [
     "cut 0080000000000000007545",
     "decode c004015001ff",
     "decode 00a1016140",
+    "decode c109045001a10161500141",
+    "read Value 0053010053020053030053045001",
     "read String a00161",
     f"decode {header('d1', 41 * 67, 82)}+{LONG_KEY}00000000+41{LONG_KEY}#39+41{LONG_KEY}0000000041",
     f"after {''.join(f'00530{n}' for n in range(1, 10))}a10161",

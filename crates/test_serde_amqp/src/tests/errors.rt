@@ -1,10 +1,23 @@
-//! The texts of `Error`.
+//! The texts of `Error`, and the field that a `ReadError` names.
 
-use super::rows::is_text;
-use serde_amqp::Error;
+use super::rows::{is, is_text};
+use serde_amqp::de::DeserializeError;
+use serde_amqp::{Error, ReadError};
 
 fn has_text(rt: &HostRuntime, error: &Error, text: &str) -> bool {
     is_text(rt, text, format!(in rt.alloc(); "{error}").ok(), text)
+}
+
+// The innermost field that has a name.
+fn names_a_field(rt: &HostRuntime) -> bool {
+    let inner = ReadError::missing_field("inner").in_field("outer");
+    let value = ReadError::invalid_value()
+        .in_field("")
+        .in_field("inner")
+        .in_field("outer");
+    is(rt, "missing", inner.field, "Some(\"inner\")")
+        && is(rt, "invalid", value.field, "Some(\"inner\")")
+        && is(rt, "kind", value.error, "InvalidValue")
 }
 
 #[test]
@@ -20,4 +33,5 @@ fn errors(rt: HostRuntime) {
             && has_text(&rt, &expected, "Expecting a Value"),
         "texts"
     );
+    assert!(rt; names_a_field(&rt), "fields");
 }
