@@ -58,10 +58,7 @@ pub(crate) fn measure<T: Serialize>(
 }
 
 // The second pass, likewise.
-pub(crate) fn write<T: Serialize>(
-    mut writer: Writer,
-    value: &T,
-) -> (Writer, Result<(), SizeError>)
+pub(crate) fn write<T: Serialize>(mut writer: Writer, value: &T) -> (Writer, Result<(), SizeError>)
     ensures { WriterPermits writer (T.tree value.now) result.1 result.0 }
 {
     let written = value.serialize(&mut writer);
