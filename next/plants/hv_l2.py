@@ -1,0 +1,18 @@
+[
+ ('audit2','amqp_value',['amqp_value::value::Value::get_mut'],[('src/accessors/lent.rt','            Value::Map(entries) => find_text_mut(entries, key),','            Value::Map(entries) => find_text_mut(entries, "a"),')]),
+ ('audit3','amqp_data',['from_iter'],[('src/transparent_vec.rt','        let items = Vec::from_iter(alloc, iter)?;','        let _all = Vec::<T, Global>::from_iter(alloc, iter)?; let items = Vec::new(alloc);')]),
+ ('decode1','amqp_decode',['amqp_decode::skip::check_content','amqp_decode::located::fault_place'],[('src/skip.rt','left: body.len() + after + 1,','left: body.len() + after,'),('src/located.rt','offset: bytes.len().saturating_sub(spot.left),','offset: spot.left,')]),
+ ('decode2','amqp_decode',['amqp_decode::located::fault_place'],[('src/located.rt','256u16.saturating_sub(spot.levels)','257u16.saturating_sub(spot.levels)')]),
+ ('wire','amqp_wire',['amqp_wire::appending::append'],[('src/appending.rt','    let len = answer?;','    let len = match answer { Ok(len) => len, Err(error) => { out.clear(); return Err(error); } };')]),
+ ('encode','amqp_encode',['amqp_encode::encoder::Encoder::encode'],[('src/encoder.rt','        self.bytes.clear();\n','')]),
+ ('write_to','serde_amqp',['serde_amqp::encoded::write_to'],[('src/encoded.rt','Ok(bytes) => writer.put(bytes.as_slice()),','Ok(_) => Ok(()),')]),
+ ('strict','amqp_strict',['amqp_strict::finder::FinderSerializer::end_part','amqp_strict::finder::FinderSerializer::undo_part'],[('src/finder.rt','compound.found = either(compound.found, found);','compound.found = found;'),('src/finder.rt','compound.found = compound.before_last;','compound.found = compound.found;')]),
+ ('value','amqp_value',['amqp_value::value::Value::as_u64','amqp_value::value::Value::as_i64','amqp_value::build::list::push','amqp_value::build::map::insert','amqp_value::accessors::lent::find_text_mut'],[('src/accessors/scalars.rt','Value::Int(number) => natural(i64::from(*number)),','Value::Int(number) => Some(i64::from(*number).unsigned_abs()),'),
+   ('src/accessors/scalars.rt','            Value::Ulong(number) => integer(*number),','            Value::Ulong(number) => integer(*number / 2),'),
+   ('src/build/list.rt','items.push(value).ok()?;','items.insert(0, value).ok()?;'),('src/build/map.rt','entries.insert(key, value).ok()?;','entries.insert(value, key).ok()?;'),
+   ('src/accessors/lent.rt','Some(at) => entries.value_at_mut(at),','Some(at) => entries.value_at_mut(at / 2),')]),
+ ('data','amqp_data',['amqp_data::ordered_map::OrderedMap::retain','amqp_data::ordered_map::OrderedMap::extend','amqp_data::ordered_map::OrderedMap::remove'],[('src/ordered_map/edits.rt','self.entries.retain(keep);','self.entries.retain(|_| true);'),('src/ordered_map/edits.rt','            drop(self.insert(key, value)?);','            if self.find(&key).is_none() { drop(self.insert(key, value)?); }'),('src/ordered_map/edits.rt','Some(self.entries.remove(at).1)','Some(self.entries.swap_remove(at).1)')]),
+ ('limit_bytes','amqp_from_slice',['amqp_from_slice::limited::decode_limited'],[('src/limited.rt','if bytes.len() > limits.bytes {','if bytes.len() >= limits.bytes {')]),
+ ('limit_depth','amqp_from_slice',['amqp_from_slice::limited::decode_limited'],[('src/limited.rt','limits.depth.min(256);','limits.depth.max(256);')]),
+ ('limit_elements','amqp_from_slice',['amqp_from_slice::limited::decode_limited'],[('src/limited.rt','Some(limits.elements), depth)','Some(limits.elements.saturating_mul(2)), depth)')]),
+]
