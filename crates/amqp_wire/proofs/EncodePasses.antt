@@ -1,10 +1,9 @@
 -- Both passes over one value: the second writes what the first has measured and listed, in the
 -- capacity that the first returned.
-use Rattle.std.proofs.Common.{◌≡◌, ℕ, ◌+◌, ◌≤◌, List, [], ◌++◌, Option, Some, None, Bool, true, false, ◌&&◌, Result, Ok, Err, length, drop, refl, ap, sym, ◌∙◌, subst, arith, append-nil, nat_le}
+use Rattle.std.proofs.Common.{◌≡◌, ℕ, ◌+◌, ◌≤◌, List, [], ◌++◌, Option, Some, None, true, ◌&&◌, Result, Ok, length, drop, refl, ap, sym, ◌∙◌, subst, arith, append-nil, nat_le}
 use Rattle.std.specs.Vec.{vec_capacity}
 use Rattle.amqp_ser.specs.Tree.{Tree}
 use Rattle.amqp_ser.specs.Encoding.{encoding}
-use Rattle.amqp_ser.specs.SizeAndBytes.{AreBytesOf}
 use Rattle.amqp_ser.specs.Writable.{uniform_arrays, within_limits, placed}
 use Rattle.amqp_ser.proofs.Bools.{both, le_true}
 use Rattle.amqp_pass.specs.Position.{position_of, meant}
@@ -12,17 +11,15 @@ use Rattle.amqp_size.specs.SizeSerializer.{AtPosition}
 use Rattle.amqp_pass.specs.WholePosition.{Root}
 use Rattle.amqp_pass.specs.WholeContext.{Context, Plain}
 use Rattle.amqp_pass.specs.declared.size_error.SizeError.{SizeError}
-use Rattle.amqp_pass.specs.declared.size_error.SizeError.TheVariants as size_error
 use Rattle.amqp_wire.specs.Appended.{AppendsBytesOf}
 use Rattle.amqp_wire.specs.TreeHeaders.{headers_of}
 use Rattle.amqp_wire.specs.Measurer.{listed, MeasurerPermits}
-use Rattle.amqp_wire.specs.Writer.{Kept, FitsOutput, Written, wrote, WritesTree, IsAccepted, WriterPermits}
+use Rattle.amqp_wire.specs.Writer.{Kept, FitsOutput, Written, wrote, WritesTree, WriterPermits}
 use Rattle.amqp_wire.specs.declared.measurer.Measurer.{Measurer}
 use Rattle.amqp_wire.specs.declared.output.Output.{Output}
 use Rattle.amqp_ser.specs.declared.header.Header.{Header}
 use Rattle.amqp_wire.specs.declared.writer.Writer.{Writer}
 use Rattle.amqp_size.proofs.Root.{at_root}
-use Rattle.amqp_wire.proofs.CountWithinBytes.{no_false}
 
 -- The first pass succeeded: the length and the headers of a writable tree, which is written after
 -- the bytes `base`.
@@ -44,9 +41,6 @@ meets t base n u hs s h l r = record {
 listed_root : (measurer : Measurer) (o : Option Tree) (hs : List Header) → measurer.size.context ≡ Plain Root → measurer.table.headers.items ≡ [] → listed (meant measurer.size.context o) measurer.table.headers.items hs → listed o [] hs
 listed_root measurer o hs p e l = subst (λ u. listed (meant u o) [] hs) p (subst (λ b. listed (meant measurer.size.context o) b hs) e l)
 
-accepts_root : (w : Writer) (o : Option Tree) (r : Result (Unit {0}) SizeError) (after : Context) → w.context ≡ Plain Root → IsAccepted (position_of w.context) (meant w.context o) r after → IsAccepted Root o r after
-accepts_root w o r after p h = subst (λ u. IsAccepted (position_of u) (meant u o) r after) p h
-
 writes_root : (w : Writer) (o : Option Tree) (r : Result (Unit {0}) SizeError) (after : Output) → w.context ≡ Plain Root → WritesTree (position_of w.context) w.output (meant w.context o) r after → WritesTree Root w.output o r after
 writes_root w o r after p h = subst (λ u. WritesTree (position_of u) w.output (meant u o) r after) p h
 
@@ -55,15 +49,6 @@ go_well None base n u hs s after h l r w = absurd h
 go_well (Some t) base n u hs s after h l r w =
     let written : Written Root s t after = w (meets t base n u hs s h l r) in
     (encoding t, (written.out ∙ ap (λ b. b ++ encoding t) r.out, (both (within_limits t) (uniform_arrays t && placed t) h.within_limits_it (both (uniform_arrays t) (placed t) h.uniform_arrays_it h.suited), refl, h.ranged)))
-
-no_refusal : (t : Tree) (n : ℕ) (u v : Context) (e : SizeError) → AtPosition Root (Some t) (Ok n) u → AtPosition Root (Some t) (Err e) v → ⊥
-no_refusal t n u v size_error.TooLong h w = no_false (sym w.0 ∙ h.within_limits_it)
-no_refusal t n u v size_error.InvalidValue h w = no_false (sym w.0 ∙ both (uniform_arrays t) (placed t) h.uniform_arrays_it h.suited)
-no_refusal t n u v size_error.OutOfMemory h w = absurd w.0
-
-go_wrong : (o : Option Tree) (n : ℕ) (u v : Context) (e : SizeError) → AtPosition Root o (Ok n) u → AtPosition Root o (Err e) v → ⊥
-go_wrong None n u v e h w = absurd h
-go_wrong (Some t) n u v e h w = no_refusal t n u v e h w
 
 -- No more headers are consumed than the table has.
 go_whole : (o : Option Tree) (base : List ℕ) (n : ℕ) (u : Context) (hs : List Header) (s after : Output) → AtPosition Root o (Ok n) u → listed o [] hs → Ready s base n hs → Kept s after → wrote Root s o after → nat_le after.taken (length after.table.items) ≡ true
@@ -83,19 +68,6 @@ walked_after measurer counted o base n start done x p e h q t k b room w =
     go_well o base n counted.size.context counted.table.headers.items start.output done.output (at_root measurer.size o (Ok n) counted.size p h.1.0)
     (listed_root measurer o counted.table.headers.items p e h.1.1) (record { table = t; taken = k; out = b; room = room }) (writes_root start o (Ok x) done.output q w.1.1)
 
--- The bytes are those of the tree.
-pub walked : (measurer counted : Measurer) (o : Option Tree) (n : ℕ) (start done : Writer) (x : Unit {0}) → measurer.size.context ≡ Plain Root → measurer.table.headers.items ≡ [] → MeasurerPermits measurer o (Ok n) counted →
-    start.context ≡ Plain Root → start.output.table.items ≡ counted.table.headers.items → start.output.taken ≡ 0 → start.output.out.items ≡ [] → n ≤ vec_capacity start.output.out →
-    WriterPermits start o (Ok x) done → AreBytesOf o (Ok done.output.out.items)
-walked measurer counted o n start done x p e h q t k b room w =
-    let all = walked_after measurer counted o [] n start done x p e h q t k b (omega arith) w in
-    subst (λ v. AreBytesOf o (Ok v)) (sym all.1.0) all.1.1
-
--- The second pass returns no error.
-pub never_refused : (measurer counted : Measurer) (o : Option Tree) (n : ℕ) (start done : Writer) (x : SizeError) → measurer.size.context ≡ Plain Root → MeasurerPermits measurer o (Ok n) counted → start.context ≡ Plain Root → WriterPermits start o (Err x) done → ⊥
-never_refused measurer counted o n start done x p h q w =
-    go_wrong o n counted.size.context done.context x (at_root measurer.size o (Ok n) counted.size p h.1.0) (accepts_root start o (Err x) done.context q w.1.0)
-
 -- The table and the capacity suffice.
 pub never_short : (measurer counted : Measurer) (o : Option Tree) (base : List ℕ) (n : ℕ) (start done : Writer) (x : Unit {0}) → measurer.size.context ≡ Plain Root → measurer.table.headers.items ≡ [] → MeasurerPermits measurer o (Ok n) counted →
     start.context ≡ Plain Root → start.output.table.items ≡ counted.table.headers.items → start.output.taken ≡ 0 → start.output.out.items ≡ base → length base + n ≤ vec_capacity start.output.out →
@@ -103,8 +75,3 @@ pub never_short : (measurer counted : Measurer) (o : Option Tree) (base : List �
 never_short measurer counted o base n start done x p e h q t k b room w =
     go_whole o base n counted.size.context counted.table.headers.items start.output done.output (at_root measurer.size o (Ok n) counted.size p h.1.0)
     (listed_root measurer o counted.table.headers.items p e h.1.1) (record { table = t; taken = k; out = b; room = room }) w.0 (writes_root start o (Ok x) done.output q w.1.1)
-
--- The result of the first pass, if no allocation failed.
-pub kept_answer : (refused : Bool) (r a : Result ℕ SizeError) (n : ℕ) → (refused ≡ true → r ≡ Err size_error.OutOfMemory) → (refused ≡ false → r ≡ a) → r ≡ Ok n → a ≡ Ok n
-kept_answer true r a n m u q = let e = m refl in cc
-kept_answer false r a n m u q = sym (u refl) ∙ q

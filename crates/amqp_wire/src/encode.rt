@@ -45,8 +45,8 @@ pub fn to_vec<T: Serialize>(alloc: Global, value: &T) -> Result<Vec<u8>, Error>
     Ok(writer.into_bytes())
 }
 
-// The first pass. The code of `serialize` is in line in the function that alone calls it: so each
-// pass has one call of it, whichever calls a program uses.
+// The first pass. `to_vec` and `append` share it, so a program that uses both has one call of
+// `serialize` for it: the compiler puts code in line that has one caller.
 pub(crate) fn measure<T: Serialize>(
     mut measurer: Measurer,
     value: &T,
@@ -57,7 +57,7 @@ pub(crate) fn measure<T: Serialize>(
     (measurer, answer)
 }
 
-// The second pass, likewise.
+// The second pass, which they share too.
 pub(crate) fn write<T: Serialize>(mut writer: Writer, value: &T) -> (Writer, Result<(), SizeError>)
     ensures { WriterPermits writer (T.tree value.now) result.1 result.0 }
 {
