@@ -2,6 +2,7 @@
 
 from derive_terms import (
     chain, field_rows, field_trees, fields_type, ghosts, list_of, member, named, read_encoded, reads_fields, take, tree_of, uses)
+from derive_types import mixed, wide
 
 
 def serialize(t):
@@ -199,9 +200,13 @@ def round_trip(t):
         calls = [f"laws::{law}::<{t.name}, {t.name}Fields>();"]
     calls += ["laws::described_return();"] if t.descriptor() else []
     body = "".join(f"        {call}\n" for call in calls)
+    # by the laws alone the prover may miss the round trip of many required scalars; opened, their tree and image are computed
+    opened = ["tree_of_parts"] + (["short_map"] if t.encoding == "map" else ["short_list"] if t.short else [])
+    words = ", ".join(f"serde_amqp::specs::Derive::{word}" for word in opened)
+    attribute = f"#[tactic(auto, unfolding({words}))]\n" if wide(t) and not mixed(t) else ""
     if not t.composite:
-        return f"impl RoundTrip for {t.name} {{\n    fn law() {{\n{body}    }}\n}}\n"
-    return f"impl RoundTripComposite for {t.name} {{\n    fn composite_law() {{\n{body}    }}\n}}\n\n" \
+        return f"{attribute}impl RoundTrip for {t.name} {{\n    fn law() {{\n{body}    }}\n}}\n"
+    return f"{attribute}impl RoundTripComposite for {t.name} {{\n    fn composite_law() {{\n{body}    }}\n}}\n\n" \
         f"impl RoundTrip for {t.name} {{\n    fn law() {{\n        <{t.name} as RoundTripComposite>::composite_law();\n    }}\n}}\n"
 
 

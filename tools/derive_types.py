@@ -252,8 +252,14 @@ def check(t):
 
 
 def wide(t):
-    """Whether the prover may miss the round trip of the struct: it found those of seven required scalars, and not of eight without other fields."""
+    """Whether the struct has more required scalars than those with which the prover finds the round trip by the laws: seven."""
     return t.round_trips and not t.is_enum and sum(not f.optional and f.type in SCALARS for f in t.fields) > 7
+
+
+def mixed(t):
+    """Whether optional fields of a list are both before a required field and after all of them, where the prover may miss a computed round trip."""
+    kinds = "".join("o" if f.optional else "r" for f in t.fields)
+    return t.encoding == "list" and t.short and kinds.endswith("o") and "or" in kinds
 
 
 def types_of(text):

@@ -1,6 +1,6 @@
 //! How much memory is reserved for the elements of a list or a map.
 
-ghost use Rattle.std.specs.Prelude.{◌≡◌, ◌<◌, ◌≤◌, OnOk, vec_len, vec_capacity};
+ghost use Rattle.std.specs.Prelude.{◌≡◌, ◌<◌, ◌≤◌, length, OnOk, vec_len, vec_capacity};
 
 use std::alloc::AllocError;
 
@@ -20,7 +20,8 @@ const LEAST: usize = 4;
 /// and reserves at most four. No more than `spare` are reserved.
 #[inline(always)]
 pub fn reserved(count: u32, body: &[u8], spare: usize) -> usize
-    ensures { result ≤ spare }
+    ensures most { result ≤ spare }
+    ensures few { length body.now < count → result ≤ 4 }
 {
     let most = (count as usize).min(body.len());
     if most == count as usize && most <= MOST && most <= spare {
@@ -38,7 +39,8 @@ pub fn reserved(count: u32, body: &[u8], spare: usize) -> usize
 /// would be reserved.
 #[inline(always)]
 pub fn reserved_of_a_map(count: u32, body: &[u8], spare: usize) -> usize
-    ensures { result ≤ spare }
+    ensures most { result ≤ spare }
+    ensures none { length body.now < count → result ≡ 0 }
 {
     let entries = count / 2;
     if entries == 0 || entries > MOST_ENTRIES || count as usize > body.len() {

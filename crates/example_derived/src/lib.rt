@@ -6,6 +6,7 @@
 
 mod catalogue;
 mod choices;
+mod counts;
 mod failure;
 mod item;
 mod limits;
@@ -17,6 +18,7 @@ mod stall;
 
 pub use catalogue::{Contact, Product, Shop};
 pub use choices::{Address, DeliveryNumber, Shape, Tag};
+pub use counts::Counts;
 pub use failure::{Failure, Rejected};
 pub use item::Item;
 pub use limits::Limits;
