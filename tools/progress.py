@@ -23,7 +23,7 @@ def main(log):
             if line.startswith("== "):
                 block = [line]
                 continue
-            ended = re.match(r"rt: (\w+)(: its tests are)? (NOT )?(proved|PROVED)", line)
+            ended = re.match(r"rt: (\w+)(: its tests are)? (?:(NOT )?(proved|PROVED)|is kept)", line)
             if block is not None and not ended:
                 block.append(line)
                 continue
