@@ -1,5 +1,4 @@
-//! Tests of `serde_amqp`, and of `amqp_value`, `amqp_to_value` and `amqp_from_value` below it, in a
-//! separate crate because a crate with tests is proved twice.
+//! Tests of `serde_amqp`, in a separate crate because a crate with tests is proved twice.
 #![tactic(auto)]
 
 #[cfg(test)]

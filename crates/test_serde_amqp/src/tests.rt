@@ -17,5 +17,4 @@ mod record_paths;
 mod rows;
 mod runs;
 mod streams;
-mod untyped;
 mod value_compounds;

@@ -1,7 +1,7 @@
 //! Calls that look into a value, and clones. Each row is a call on a value and the expected result.
 
-use crate::tests::untyped::rows::{gives, is};
-use crate::tests::untyped::values::{array, list, map, vec_of};
+use crate::tests::rows::{gives, is};
+use crate::tests::values::{array, list, map, vec_of};
 use amqp_data::{ByteBuf, Described, Descriptor, Error, Symbol, Timestamp};
 use amqp_value::{ConvertFault, Value, ValueKind};
 use std::test::Fail;

@@ -1,7 +1,7 @@
 //! Calls of `OrderedMap` and the text of a uuid. Each row is a call and the expected result.
 
-use crate::tests::untyped::rows::{gives, is};
-use crate::tests::untyped::values::ordered_map;
+use crate::tests::rows::{gives, is};
+use crate::tests::values::ordered_map;
 use amqp_data::{Error, OrderedMap, Symbol, Uuid};
 use amqp_value::Value;
 use std::fmt::Debug;
