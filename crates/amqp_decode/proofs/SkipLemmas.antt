@@ -1,5 +1,6 @@
 -- What is left after values one after another, and where the fault of bytes is, at each step.
-use Rattle.std.proofs.Common.{◌≡◌, ℕ, zero, suc, ◌+◌, ◌-◌, ◌/◌, ◌%◌, ◌*◌, ◌<◌, ◌≤◌, Bool, true, false, IsTrue, List, [], ◌∷◌, ◌++◌, length, Option, Some, None, Result, Ok, Err, IfOk, OnOk, OnErr, if◌then◌else◌, ◌==◌, refl, sym, ap, ◌∙◌, arith, length-append}
+use Rattle.std.proofs.Math.Nat.{zero-min}
+use Rattle.std.proofs.Common.{◌≡◌, ℕ, zero, suc, min, ◌+◌, ◌-◌, ◌/◌, ◌%◌, ◌*◌, ◌<◌, ◌≤◌, Bool, true, false, IsTrue, List, [], ◌∷◌, ◌++◌, length, Option, Some, None, Result, Ok, Err, IfOk, OnOk, OnErr, if◌then◌else◌, ◌==◌, refl, sym, ap, ◌∙◌, arith, length-append}
 use Rattle.amqp_data.specs.FormatCode.{code_of}
 use Rattle.amqp_data.specs.declared.format_code.EncodingCodes.{EncodingCodes}
 use Rattle.amqp_frame.specs.Code.{category}
@@ -12,8 +13,10 @@ use Rattle.amqp_decode.specs.Scalars.{and_then, scalar_in, scalar_tree}
 use Rattle.amqp_decode.specs.Spells.{IsNumber, IsPayload, IsCounted}
 use Rattle.amqp_decode.specs.Parsed.{FrameReader, ContentReader, content_at, counted_in, descriptor_at, gather, insert, all, with_rest, payload_in, parse_list, parse_map, parse_array, content_of, frame_in, parse, parse_content}
 use Rattle.amqp_decode.specs.Places.{Finder, PayloadFinder, Spot, skips, spot_of_values, spot_of_payload, spot_of_array, spot_of_descriptor, spot_in, spot_in_item, spot_around, content_spot, at_start}
+use Rattle.amqp_decode.specs.WithoutBytes.{has_no_payload}
 use Rattle.amqp_decode.specs.declared.payload_shape.Count.{Count}
 use Rattle.amqp_decode.specs.declared.payload_shape.PayloadShape.TheVariants as shape
+use Rattle.amqp_decode.proofs.Finds.{cut-seam}
 use Rattle.amqp_decode.proofs.Means.{Says, payload-says, counted-says}
 use Rattle.amqp_decode.proofs.Whole.{nil-from_length}
 use Rattle.amqp_decode.proofs.Steps.{parse-at, parse_content-at, array-found, array-none, not-zero}
@@ -172,6 +175,45 @@ module _ (c : Finder) (f : FrameReader) (level : ℕ) (after : ℕ) where
       let none : n - i ≡ 0 = omega (arith, e) in
       sym (ap (λ m. spot_of_values c f level m after s) none)
 
+-- Elements without bytes leave the bytes before them, so the first shows what all are.
+first-of : {A : Type 0} (f : ℕ → A) → ((n : ℕ) → f (suc n) ≡ f 1) → (n : ℕ) → f (min n 1) ≡ f n
+first-of f same zero = ap f (zero-min 1)
+first-of f same (suc n) =
+    let one : min (suc n) 1 ≡ 1 = omega arith in
+    ap f one ∙ sym (same n)
+
+skips-same : (f : FrameReader) (s : List ℕ) (t : Tree) → f s ≡ Some (t, s) → (n : ℕ) → skips f n s ≡ Some s
+skips-same f s t e zero = refl
+skips-same f s t e (suc n) = rw e (skips-same f s t e n)
+
+spots-same : (c : Finder) (f : FrameReader) (level after : ℕ) (s : List ℕ) (t : Tree) → f s ≡ Some (t, s) → (n : ℕ) → spot_of_values c f level n after s ≡ at_start level after s
+spots-same c f level after s t e zero = refl
+spots-same c f level after s t e (suc n) = rw e (spots-same c f level after s t e n)
+
+module _ (d : ℕ) (c : EncodingCodes) (s : List ℕ) (none : has_no_payload c ≡ true) where
+  no-content : content_at (category (code_of c)) s ≡ Some ([], s)
+  unfolding category
+  no-content = rw none (cut-seam [] s)
+
+  left : payload_in (parse_content d) c s ≡ and_then (parse_content d c []) (with_rest s)
+  left = rw no-content refl
+
+  pub first-skips : (n m : ℕ) → m ≡ min n 1 → skips (payload_in (parse_content d) c) m s ≡ skips (payload_in (parse_content d) c) n s
+  first-skips n m one = ap (λ k. skips (payload_in (parse_content d) c) k s) one ∙ first-of (λ k. skips (payload_in (parse_content d) c) k s) (by_item (parse_content d c []) left) n
+    where
+      by_item : (o : Option Tree) → payload_in (parse_content d) c s ≡ and_then o (with_rest s)
+          → (m : ℕ) → skips (payload_in (parse_content d) c) (suc m) s ≡ skips (payload_in (parse_content d) c) 1 s
+      by_item None e m = rw e refl
+      by_item (Some t) e m = skips-same (payload_in (parse_content d) c) s t e (suc m) ∙ sym (skips-same (payload_in (parse_content d) c) s t e 1)
+
+  pub first-spots : (k : Finder) (level after n m : ℕ) → m ≡ min n 1 → spot_of_values k (payload_in (parse_content d) c) level m after s ≡ spot_of_values k (payload_in (parse_content d) c) level n after s
+  first-spots k level after n m one = ap (λ i. spot_of_values k (payload_in (parse_content d) c) level i after s) one ∙ first-of (λ i. spot_of_values k (payload_in (parse_content d) c) level i after s) (by_item (parse_content d c []) left) n
+    where
+      by_item : (o : Option Tree) → payload_in (parse_content d) c s ≡ and_then o (with_rest s)
+          → (m : ℕ) → spot_of_values k (payload_in (parse_content d) c) level (suc m) after s ≡ spot_of_values k (payload_in (parse_content d) c) level 1 after s
+      by_item None e m = rw e refl
+      by_item (Some t) e m = spots-same k (payload_in (parse_content d) c) level after s t e (suc m) ∙ sym (spots-same k (payload_in (parse_content d) c) level after s t e 1)
+
 abbrev spot : ℕ → ℕ → Spot
 spot left level = (left, level)
 
@@ -293,6 +335,9 @@ module _ (d n : ℕ) (body : List ℕ) where
     items-found filled =
         let h = gathered (payload_in (parse_content d) c) n s filled in
         (tree.array (trees_of h.0), array-found (parse_content d) b c n body s h.0 e is h.1)
+
+    pub items-spot : (after : ℕ) → spot_of_values (spot_in_item d c) (payload_in (parse_content d) c) d n after s ≡ spot_of_array (spot_in_item d) (parse_content d) d after (n, body)
+    items-spot after = rw (is, e) refl
 
     pub no_items : (skips (payload_in (parse_content d) c) n s ≡ Some [] → ⊥) → parse_array (parse_content d) (n, body) ≡ None
     no_items left = array-none (parse_content d) b c n body s e is (not-gathered (payload_in (parse_content d) c) n s left)

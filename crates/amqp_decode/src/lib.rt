@@ -23,4 +23,6 @@ mod scalar_check;
 mod skip;
 
 pub use decode::{decode_value, decode_value_limited, decode_value_to_depth};
-pub use located::{Located, Place, decode_value_located, fault_place};
+pub use located::{
+    Located, Place, decode_value_limited_located, decode_value_located, fault_place,
+};

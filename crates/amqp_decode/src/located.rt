@@ -1,14 +1,15 @@
 //! Decodes one encoded value, and says where the bytes have a fault.
 
-ghost use Rattle.std.specs.Prelude.{◌≡◌, IfOk, IfErr, IfNone, IfSome, OnSome, None};
-ghost use Rattle.amqp_data.specs.declared.error.Error.TheVariants.{OutOfMemory};
+ghost use Rattle.std.specs.Prelude.{◌≡◌, ◌≤◌, ◌<◌, ◌⊎◌, IfOk, IfErr, IfNone, IfSome, OnSome, None};
+ghost use Rattle.amqp_data.specs.declared.error.Error.TheVariants.{OutOfMemory, TooLong};
 ghost use Rattle.amqp_ser.specs.Tree.{Tree};
 ghost use Rattle.amqp_value.specs.TreeOf.{tree_of};
-ghost use Rattle.amqp_decode.specs.Faults.{DecodeFails};
+ghost use Rattle.amqp_decode.specs.Faults.{DecodeFails, decode_fault};
 ghost use Rattle.amqp_decode.specs.Located.{IsPlace, IsPlaced};
 ghost use Rattle.amqp_decode.specs.Spells.{Spells};
+ghost use Rattle.amqp_decode.specs.WithoutBytes.{elements_without_bytes};
 
-use crate::decode::decode_value;
+use crate::decode::{decode_value, decode_value_limited};
 use crate::skip::check_values;
 use amqp_data::Error;
 use amqp_value::Value;
@@ -60,15 +61,66 @@ pub fn decode_value_located(alloc: Global, bytes: &[u8]) -> Result<Value, Locate
 {
     match decode_value(alloc, bytes) {
         Ok(value) => Ok(value),
-        Err(Error::OutOfMemory) => Err(Located {
-            error: Error::OutOfMemory,
+        Err(error) => Err(with_place(error, bytes)),
+    }
+}
+
+/// Decodes one encoded value that contains at most `elements` array elements without bytes, like
+/// `decode_value_limited`, and says where the bytes have their first fault.
+///
+/// If the bytes have a fault, they are read once more, without a value.
+///
+/// # Errors
+/// Returns the error of `decode_value_limited`: with the place that `decode_value_located` describes
+/// if the bytes have a fault, and without a place if it is `TooLong` or out of memory.
+///
+/// # Memory
+/// Allocates from `alloc` as `decode_value_limited` does. The place is found without memory.
+///
+/// # Example
+/// With a limit of two elements, `e0020340`, an array of three nulls, fails with `TooLong` and no
+/// place, and `e003024046` with `InvalidValue` at offset 4 and depth 1.
+pub fn decode_value_limited_located(
+    alloc: Global,
+    bytes: &[u8],
+    elements: u32,
+) -> Result<Value, Located>
+    ensures ok { IfOk result (λ v. Spells 256 bytes.now (tree_of v)) }
+    ensures within { IfOk result (λ v. elements_without_bytes 256 bytes.now ≤ elements) }
+    ensures too_long { IfErr result (λ e. e.error ≡ TooLong →
+        elements < elements_without_bytes 256 bytes.now) }
+    ensures err { IfErr result (λ e. ¬ (e.error ≡ OutOfMemory) → ¬ (e.error ≡ TooLong) →
+        (t : Tree) → ¬ Spells 256 bytes.now t) }
+    ensures fault { IfErr result (λ e. ¬ (e.error ≡ OutOfMemory) → ¬ (e.error ≡ TooLong) →
+        e.error ≡ decode_fault 256 bytes.now) }
+    ensures place { IfErr result (λ e. ¬ (e.error ≡ OutOfMemory) → ¬ (e.error ≡ TooLong) →
+        IsPlaced e.place 256 bytes.now) }
+    ensures none { IfErr result (λ e. (e.error ≡ OutOfMemory) ⊎ (e.error ≡ TooLong) →
+        e.place ≡ None) }
+{
+    match decode_value_limited(alloc, bytes, elements) {
+        Ok(value) => Ok(value),
+        Err(Error::TooLong) => Err(Located {
+            error: Error::TooLong,
             place: None,
         }),
-        Err(error) => Err(Located {
-            error,
-            place: fault_place(bytes),
-        }),
+        Err(error) => Err(with_place(error, bytes)),
     }
+}
+
+// Returns the error of decoding the bytes, with the place of their first fault unless an allocation
+// failed.
+fn with_place(error: Error, bytes: &[u8]) -> Located
+    ensures error { result.error ≡ error }
+    ensures place { ¬ (error ≡ OutOfMemory) → ((t : Tree) → ¬ Spells 256 bytes.now t) →
+        IsPlaced result.place 256 bytes.now }
+    ensures memory { error ≡ OutOfMemory → result.place ≡ None }
+{
+    let place = match error {
+        Error::OutOfMemory => None,
+        _ => fault_place(bytes),
+    };
+    Located { error, place }
 }
 
 /// Returns where bytes that are not one encoded value have their first fault, and `None` if they are

@@ -7,7 +7,7 @@ ghost use Rattle.amqp_decode.specs.SpotAt.{IsAt};
 ghost use Rattle.amqp_decode.specs.Places.{content_spot, skips, spot_around, spot_in, spot_in_item, spot_of_array, spot_of_payload, spot_of_values};
 
 use crate::payload::{read_count, read_payload};
-use crate::payload_shape::{PayloadShape, payload_shape, primitive_code};
+use crate::payload_shape::{PayloadShape, has_no_payload, payload_shape, primitive_code};
 use crate::scalar_check::{Spot, check_scalar, skip_descriptor};
 use amqp_data::EncodingCodes;
 
@@ -171,6 +171,10 @@ fn check_array(count: u32, body: &[u8], depth: u16, after: usize) -> Result<(), 
         None if count == 0 => Ok(()),
         None => Err(here),
         Some((constructor, payloads)) => match primitive_code(*constructor) {
+            // Elements without bytes are all alike, so one of them is checked.
+            Ok(code) if has_no_payload(code) => {
+                check_items(code, count.min(1), payloads, depth, after)
+            }
             Ok(code) => check_items(code, count, payloads, depth, after),
             Err(_) => Err(here),
         },

@@ -3,8 +3,6 @@
 ghost use Rattle.amqp_wire.specs.Appended.{AppendsBytesOf};
 
 use crate::encode::{measure, unless_refused, write};
-use crate::measurer::Measurer;
-use crate::writer::Writer;
 use amqp_data::Error;
 use amqp_ser::{Header, Serialize};
 use std::alloc::Global;
@@ -37,14 +35,14 @@ pub fn append<T: Serialize>(
 {
     let mut table = mem::replace(headers, Vec::new(alloc));
     table.clear();
-    let (measurer, answer) = measure(Measurer::with_headers(table), value);
+    let (measurer, answer) = measure(table, value);
     let answer = unless_refused(&measurer, answer);
     *headers = measurer.into_headers();
     let len = answer?;
     out.reserve(len)?;
     let table = mem::replace(headers, Vec::new(alloc));
     let buffer = mem::replace(out, Vec::new(alloc));
-    let (writer, written) = write(Writer::new(table, buffer), value);
+    let (writer, written) = write(table, buffer, value);
     let is_whole = writer.is_whole();
     let (table, bytes) = writer.into_parts();
     *headers = table;

@@ -3,6 +3,8 @@
 ghost use Rattle.std.specs.Prelude.{◌≡◌, Err, true, false};
 ghost use Rattle.amqp_ser.specs.SizeAndBytes.{AreBytesOf};
 ghost use Rattle.amqp_wire.specs.ResultBytes.{result_bytes};
+ghost use Rattle.amqp_pass.specs.WholeContext.{Plain};
+ghost use Rattle.amqp_pass.specs.WholePosition.{Root};
 ghost use Rattle.amqp_wire.specs.Measurer.{MeasurerPermits};
 ghost use Rattle.amqp_wire.specs.Writer.{WriterPermits};
 
@@ -10,7 +12,7 @@ use crate::measurer::Measurer;
 use crate::writer::Writer;
 use amqp_data::Error;
 use amqp_pass::SizeError;
-use amqp_ser::Serialize;
+use amqp_ser::{Header, Serialize};
 use std::alloc::Global;
 
 /// Returns the encoding of `value`. Unless an allocation fails, it succeeds if and only if the tree
@@ -34,10 +36,10 @@ use std::alloc::Global;
 pub fn to_vec<T: Serialize>(alloc: Global, value: &T) -> Result<Vec<u8>, Error>
     ensures { AreBytesOf (T.tree value.now) (result_bytes result) }
 {
-    let (measurer, answer) = measure(Measurer::new(alloc), value);
+    let (measurer, answer) = measure(Vec::new(alloc), value);
     let len = unless_refused(&measurer, answer)?;
     let out = Vec::with_capacity(alloc, len)?;
-    let (writer, written) = write(Writer::new(measurer.into_headers(), out), value);
+    let (writer, written) = write(measurer.into_headers(), out, value);
     written?;
     if !writer.is_whole() {
         return Err(Error::InvalidValue);
@@ -46,21 +48,32 @@ pub fn to_vec<T: Serialize>(alloc: Global, value: &T) -> Result<Vec<u8>, Error>
 }
 
 // The first pass. `to_vec` and `append` share it, so a program that uses both has one call of
-// `serialize` for it: the compiler puts code in line that has one caller.
+// `serialize` for it: the compiler puts code in line that has one caller. The serializer is created
+// here, so that the compiler knows its position in such a program too.
 pub(crate) fn measure<T: Serialize>(
-    mut measurer: Measurer,
+    headers: Vec<Header>,
     value: &T,
 ) -> (Measurer, Result<usize, SizeError>)
-    ensures { MeasurerPermits measurer (T.tree value.now) result.1 result.0 }
+    ensures { (start : Measurer) × ((start.table.headers ≡ headers) × ((start.table.refused ≡ false)
+        × ((start.size.context ≡ Plain Root)
+        × MeasurerPermits start (T.tree value.now) result.1 result.0))) }
 {
+    let mut measurer = Measurer::with_headers(headers);
     let answer = value.serialize(&mut measurer);
     (measurer, answer)
 }
 
 // The second pass, which they share too.
-pub(crate) fn write<T: Serialize>(mut writer: Writer, value: &T) -> (Writer, Result<(), SizeError>)
-    ensures { WriterPermits writer (T.tree value.now) result.1 result.0 }
+pub(crate) fn write<T: Serialize>(
+    table: Vec<Header>,
+    out: Vec<u8>,
+    value: &T,
+) -> (Writer, Result<(), SizeError>)
+    ensures { (start : Writer) × ((start.output.table ≡ table) × ((start.output.taken ≡ 0)
+        × ((start.output.out ≡ out) × ((start.context ≡ Plain Root)
+        × WriterPermits start (T.tree value.now) result.1 result.0)))) }
 {
+    let mut writer = Writer::new(table, out);
     let written = value.serialize(&mut writer);
     (writer, written)
 }

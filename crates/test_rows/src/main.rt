@@ -10,6 +10,7 @@
 //! | `whole BYTES` | the length and the bytes by which the value encodes itself: `whole_len`, `whole_bytes` |
 //! | `long BYTES` | like `count`, with the size, and whether bytes and image are those given |
 //! | `place BYTES` | the offset and the depth of the first fault, with the error, or `none`: `decode_value_located` and `fault_place` |
+//! | `place_within LIMIT BYTES` | the error of `decode_value_limited_located`, if any, and the place of the first fault, or `none` |
 //! | `text BYTES TEXT` | whether the text of the value has these bytes |
 //! | `code BYTES` | the format code of the value |
 //! | `count BYTES` | the number of elements or pairs of the compound |

@@ -13,6 +13,7 @@ pub fn answer(alloc: Global, line: &str) -> Result<String, Error> {
     };
     match call {
         "decode_within" => values::decode_within(alloc, arguments),
+        "place_within" => values::place_within(alloc, arguments),
         "read_within" => limited::read_within(alloc, arguments),
         "cut_within" => limited::cut_within(alloc, arguments),
         "round_trip" => trips::round_trips(alloc, arguments),

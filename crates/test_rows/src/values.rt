@@ -3,7 +3,10 @@
 use crate::notation::{bytes_of, number_of, word_of};
 use crate::row::refusal;
 use amqp_data::Error;
-use amqp_decode::{Located, decode_value, decode_value_limited, decode_value_located, fault_place};
+use amqp_decode::{
+    Located, Place, decode_value, decode_value_limited, decode_value_limited_located,
+    decode_value_located, fault_place,
+};
 use amqp_frame::{LazyValue, SliceReader};
 use amqp_ser::Whole as _;
 use amqp_size::serialized_size;
@@ -52,6 +55,39 @@ pub fn place(alloc: Global, bytes: &[u8]) -> Result<String, Error> {
             Ok(format!(in alloc; "{offset} {depth} <{error}>")?)
         }
         _ => Ok(String::from_str(alloc, "none")?),
+    }
+}
+
+/// Returns the error within a limit on elements that have no bytes, if there is one, and the place of
+/// the first fault; the arguments are `LIMIT BYTES`. An error has this place, or none at the limit.
+pub fn place_within(alloc: Global, arguments: &str) -> Result<String, Error> {
+    let Some((limit, bytes)) = arguments.split_once(' ') else {
+        return Err(Error::Message("one argument"));
+    };
+    let bytes = bytes_of(alloc, bytes)?;
+    let fault = fault_place(&bytes);
+    match decode_value_limited_located(alloc, &bytes, number_of(limit)?) {
+        Ok(_) => place_text(alloc, fault),
+        Err(
+            Located {
+                error: Error::OutOfMemory,
+                ..
+            },
+        ) => Err(Error::OutOfMemory),
+        Err(Located { error, place }) => {
+            if place != (if error == Error::TooLong { None } else { fault }) {
+                return Ok(String::from_str(alloc, "another place")?);
+            }
+            Ok(format!(in alloc; "<{error}> {}", place_text(alloc, fault)?)?)
+        }
+    }
+}
+
+// Returns the offset and the depth, or `none`.
+fn place_text(alloc: Global, place: Option<Place>) -> Result<String, Error> {
+    match place {
+        Some(place) => Ok(format!(in alloc; "{} {}", place.offset, place.depth)?),
+        None => Ok(String::from_str(alloc, "none")?),
     }
 }
 

@@ -34,7 +34,7 @@
 //! | encodings | `append`, `append_to`, `to_vec_strict`, `write_to`, `Encoder::new`, `Encoder::encode` |
 //! | rows of decode and decode_within | `decode_value`, `decode_value_limited`, `decode_value_to_depth` |
 //! | rows of read_within | `from_slice_limited`, `from_reader_limited` |
-//! | rows of place and field | `decode_value_located`, `from_value_located`, `from_slice_located` |
+//! | rows of place, place_within and field | `decode_value_located`, `decode_value_limited_located`, `from_value_located`, `from_slice_located` |
 //! | rows of decode and read | `MapBuilder::new`, `MapBuilder::with_capacity`, `MapBuilder::into_value` |
 //! | rows of read | `from_value`, `from_slice`, `from_reader`, `ReadLazy::read`, `Deserializer::new` |
 //! | the same | `Deserialize::read_encoded`, `Deserialize::read_list`, `Deserialize::read_array`, `Deserialize::have_distinct_trees`, `read_string`, `read_symbol`, `read_binary` |

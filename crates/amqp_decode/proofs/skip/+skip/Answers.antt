@@ -1,4 +1,4 @@
-use Rattle.std.proofs.Common.{rules, ◌≡◌, ◌∷◌, ◌+◌, ◌-◌, ◌%◌, ◌<◌, Some, None, IfOk, IfErr, OnErr, sym, ap, ◌∙◌, subst, length, arith}
+use Rattle.std.proofs.Common.{rules, min, true, ◌≡◌, ◌∷◌, ◌+◌, ◌-◌, ◌%◌, ◌<◌, Some, None, IfOk, IfErr, OnErr, sym, ap, ◌∙◌, subst, length, arith}
 use Rattle.amqp_data.specs.FormatCode.{code_of}
 use Rattle.amqp_frame.specs.Code.{category}
 use Rattle.amqp_ser.specs.Tree as tree
@@ -7,8 +7,9 @@ use Rattle.amqp_decode.specs.Codes.{primitive_of, shape_of_code}
 use Rattle.amqp_decode.specs.Parsed.{frame_in, parse, parse_content, payload_in}
 use Rattle.amqp_decode.specs.Places.{spot_around, spot_in, spot_in_item}
 use Rattle.amqp_decode.specs.SpotAt.{IsAt}
+use Rattle.amqp_decode.specs.WithoutBytes.{has_no_payload}
 use Rattle.amqp_decode.specs.declared.payload_shape.PayloadShape.TheVariants as shape
-use Rattle.amqp_decode.proofs.SkipLemmas.{bare-array, content-shorter, counted-shorter, described-ok, item-as, item-spot-at, item-spot-zero, items-found, list-content, map-content, no_items, no_list-content, no_map-content, odd-shorter, on-err, on-ok, parse-code, parse-no_code, scalar-found, skips-filled, skips-left, skips-none, skips-step, spot-at, spot-code, spot-empty, spot-no_code, spot-zero, spots-end, spots-here, spots-step}
+use Rattle.amqp_decode.proofs.SkipLemmas.{bare-array, content-shorter, counted-shorter, described-ok, first-skips, first-spots, item-as, item-spot-at, item-spot-zero, items-found, items-spot, list-content, map-content, no_items, no_list-content, no_map-content, odd-shorter, on-err, on-ok, parse-code, parse-no_code, scalar-found, skips-filled, skips-left, skips-none, skips-step, spot-at, spot-code, spot-empty, spot-no_code, spot-zero, spots-end, spots-here, spots-step}
 use Rattle.amqp_decode.proofs.Steps.{item-zero, parse-at, parse-empty, parse-zero}
 use Rattle.amqp_decode.proofs.skip.+skip.Goals as goal
 
@@ -194,12 +195,37 @@ check_array-returns-in-None-clause-ok t c =
 pub check_array-returns-in-Ok-clause-ok : goal.check_array-returns-in-Ok-clause-ok
 check_array-returns-in-Ok-clause-ok t c =
     let body : c.args.body.now ≡ c.in-Some.constructor.now ∷ c.in-Some.payloads.now = search rules in
-    on-ok c.check_items.result (items-found c.args.depth c.args.count c.args.body.now c.in-Some.constructor.now c.in-Some.payloads.now body c.in-Ok.code c.in-Ok.ensures.ok) c.check_items.ensures.ok
+    let none : has_no_payload c.in-Ok.code ≡ true = search rules in
+    let one : c.min.result ≡ min c.args.count 1 = omega arith in
+    let same = first-skips c.args.depth c.in-Ok.code c.in-Some.payloads.now none c.args.count c.min.result one in
+    on-ok c.check_items.result (λ filled. items-found c.args.depth c.args.count c.args.body.now c.in-Some.constructor.now c.in-Some.payloads.now body c.in-Ok.code c.in-Ok.ensures.ok (sym same ∙ filled)) c.check_items.ensures.ok
 
 pub check_array-returns-in-Ok-clause-err : goal.check_array-returns-in-Ok-clause-err
 check_array-returns-in-Ok-clause-err t c =
     let body : c.args.body.now ≡ c.in-Some.constructor.now ∷ c.in-Some.payloads.now = search rules in
-    on-err c.check_items.result (no_items c.args.depth c.args.count c.args.body.now c.in-Some.constructor.now c.in-Some.payloads.now body c.in-Ok.code c.in-Ok.ensures.ok) c.check_items.ensures.err
+    let none : has_no_payload c.in-Ok.code ≡ true = search rules in
+    let one : c.min.result ≡ min c.args.count 1 = omega arith in
+    let same = first-skips c.args.depth c.in-Ok.code c.in-Some.payloads.now none c.args.count c.min.result one in
+    on-err c.check_items.result (λ left. no_items c.args.depth c.args.count c.args.body.now c.in-Some.constructor.now c.in-Some.payloads.now body c.in-Ok.code c.in-Ok.ensures.ok (λ filled. left (same ∙ filled))) c.check_items.ensures.err
+
+pub check_array-returns-in-Ok-clause-spot : goal.check_array-returns-in-Ok-clause-spot
+check_array-returns-in-Ok-clause-spot t c =
+    let body : c.args.body.now ≡ c.in-Some.constructor.now ∷ c.in-Some.payloads.now = search rules in
+    let none : has_no_payload c.in-Ok.code ≡ true = search rules in
+    let one : c.min.result ≡ min c.args.count 1 = omega arith in
+    let same = first-spots c.args.depth c.in-Ok.code c.in-Some.payloads.now none (spot_in_item c.args.depth c.in-Ok.code) c.args.depth c.args.after c.args.count c.min.result one
+    ∙ items-spot c.args.depth c.args.count c.args.body.now c.in-Some.constructor.now c.in-Some.payloads.now body c.in-Ok.code c.in-Ok.ensures.ok c.args.after in
+    subst (λ z. IfErr c.check_items.result (λ p. IsAt p z)) same c.check_items.ensures.spot
+
+pub check_array-returns-in-Ok-2-clause-ok : goal.check_array-returns-in-Ok-2-clause-ok
+check_array-returns-in-Ok-2-clause-ok t c =
+    let body : c.args.body.now ≡ c.in-Some.constructor.now ∷ c.in-Some.payloads.now = search rules in
+    on-ok c.check_items-in-Ok-2.result (items-found c.args.depth c.args.count c.args.body.now c.in-Some.constructor.now c.in-Some.payloads.now body c.in-Ok.code c.in-Ok.ensures.ok) c.check_items-in-Ok-2.ensures.ok
+
+pub check_array-returns-in-Ok-2-clause-err : goal.check_array-returns-in-Ok-2-clause-err
+check_array-returns-in-Ok-2-clause-err t c =
+    let body : c.args.body.now ≡ c.in-Some.constructor.now ∷ c.in-Some.payloads.now = search rules in
+    on-err c.check_items-in-Ok-2.result (no_items c.args.depth c.args.count c.args.body.now c.in-Some.constructor.now c.in-Some.payloads.now body c.in-Ok.code c.in-Ok.ensures.ok) c.check_items-in-Ok-2.ensures.err
 
 pub check_values-skip_value-requires : goal.check_values-skip_value-requires
 check_values-skip_value-requires t c =
