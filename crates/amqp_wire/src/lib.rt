@@ -16,8 +16,6 @@ mod output;
 mod position_checks;
 mod scalars;
 mod table;
-#[cfg(test)]
-mod tests;
 mod writer;
 mod writer_compound;
 

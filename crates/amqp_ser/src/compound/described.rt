@@ -103,6 +103,6 @@ pub fn serialize_described<S: Serializer, D: Serialize, T: Serialize>(
 {
     let mut compound = serializer.begin_compound(CompoundKind::Single);
     feed_descriptor(&mut *serializer, &mut compound, descriptor)?;
-    feed_single(&mut *serializer, &mut compound, value)?;
-    end_single(serializer, compound)
+    serializer.begin_part(&mut compound);
+    value.serialize(serializer)
 }

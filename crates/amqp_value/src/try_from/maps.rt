@@ -10,7 +10,6 @@ ghost use Rattle.amqp_value.specs.Converts.{MapGives, inserted_in_order, inserte
 use super::ConvertFault;
 use super::pairs::convert_pairs;
 use crate::Value;
-use crate::short_keys::have_short_keys;
 use amqp_data::{OrderedMap, OrderedMapBuilder};
 use indexmap::IndexMap;
 use std::collections::{BTreeMap, HashMap};
@@ -28,8 +27,8 @@ const MANY: usize = 48;
 /// be converted.
 ///
 /// # Memory
-/// Allocates from the map's own allocator as the new map grows. From 48 entries on, if the keys are
-/// short (`is_short_key`), an index takes 16 bytes for each entry until the map is complete.
+/// Allocates from the map's own allocator as the new map grows. From 48 entries on, an index takes
+/// 16 bytes for each entry until the map is complete.
 ///
 /// # Example
 /// The map from the ubyte 1 to `true` gives 1 to `true` as an `OrderedMap<u8, bool>`, and
@@ -48,7 +47,7 @@ where
         match value {
             Value::Map(pairs) => {
                 let pairs = pairs.into_inner();
-                if pairs.len() < MANY || !have_short_keys(&pairs) {
+                if pairs.len() < MANY {
                     return convert_pairs::<K, V, OrderedMap<K, V>>(pairs);
                 }
                 match convert_pairs::<K, V, OrderedMapBuilder<K, V>>(pairs) {
