@@ -1,4 +1,4 @@
-"""Compares the results that the program tool_trees prints with those of an evaluator in plain Python.
+"""Compares the results that the program tests/trees prints with those of an evaluator in plain Python.
 
     differential.py PROGRAM SEED COUNT    runs the program once on random rows (grow.py) and as many rows of one encoding,
                                           most of which is malformed (malformed.py), and prints the first that differs
@@ -100,7 +100,7 @@ def printed(program, given):
         )
     lines = ran.stdout.decode().split("\n")
     if ran.returncode != 0 or lines.pop() != "" or len(lines) != len(given):
-        sys.exit(f"tool_trees ended with status {ran.returncode} after {len(lines)} lines for {len(given)} rows")
+        sys.exit(f"tests/trees ended with status {ran.returncode} after {len(lines)} lines for {len(given)} rows")
     return lines
 
 
@@ -122,7 +122,7 @@ def compare_row(row, line, fields):
     given, _, printed_fields = line.partition(SIGN)
     found, wanted = [given, *printed_fields.split("\t")], [row, *fields]
     if len(found) != len(wanted) or not all(map(holds, found, wanted)):
-        print("tool_trees and the evaluator differ:")
+        print("tests/trees and the evaluator differ:")
         for ours, other in zip_longest(found, wanted, fillvalue=""):
             print("  " + ours if holds(ours, other) else f"! {ours}\n  {other}")
         sys.exit(1)

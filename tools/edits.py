@@ -1,4 +1,4 @@
-"""Reads the edits of a crate, crates/NAME/must-fail/*.edit and crates/NAME/audit/*.edit, and finds the functions that each of them changes.
+"""Reads the edits of a crate, in must-fail/, audit/ and harmless/, and finds the functions that each of them changes.
 
 An edit has lines 'file: PATH', 'old: TEXT' and 'new: TEXT'. The old text is in the file exactly once when its pair is applied.
 """
@@ -30,7 +30,7 @@ def pairs(edit):
 
 
 def only(edit):
-    """Returns the function that a line 'only: NAME' of the edit names: one that is not proved with it. The gate does not read the line."""
+    """Returns the function that a line 'only: NAME' of the edit names, below the crate: the one to check. The kit does not read the line."""
     with open(edit, encoding="utf-8") as lines:
         return next((it[len("only:") :].strip() for it in lines if it.startswith("only:")), None)
 
@@ -107,7 +107,7 @@ def functions(text):
     """Returns the functions with a body, those inside another function's body left out."""
     code = blanked(text)
     owners = []
-    for found in re.finditer(r"^[ \t]*(?:pub(?:\([^)]*\))? )?(?:unsafe )?((?:impl|trait)\b(?:[^{;\[]|\[[^\]]*\])*)\{", code, re.M):
+    for found in re.finditer(r"(?:^|[;}])[ \t]*(?:pub(?:\([^)]*\))? )?(?:unsafe )?((?:impl|trait)\b(?:[^{;\[]|\[[^\]]*\])*)\{", code, re.M):
         owners.append((found.end(), closing(code, found.end() - 1), found[1]))
     made, last = [], 0
     for found in re.finditer(r"\bfn\s+(\w+)", code):
@@ -136,34 +136,6 @@ def outside(text, its_functions):
         parts += [text[at : function.start], re.sub(r"([(,]\s*)mut\s+", r"\1", text[function.start : function.body])]
         at = function.end
     return parts + [text[at:]]
-
-
-def place(crate, path, function, names):
-    """Returns the name of the function, the folder of its proof and how the names of its goals begin there, or None if more than one name fits.
-
-    `names` are the names of the crate's functions as a check lists them, as `crate::module::TypeTrait::method`.
-    """
-    module = crate + re.sub(r"^src|(/(lib|main|mod))?\.rt$", "", path).replace("/", "::")
-    fits = [it for it in names if it.startswith(f"{module}::") and it.endswith(f"::{function.name}")]
-    fits = [it for it in fits if it.count("::") == module.count("::") + 2]
-    if not function.owner:
-        fits = [it for it in names if it == f"{module}::{function.name}"]
-    elif function.owner.startswith("trait"):
-        fits = [it for it in fits if it.split("::")[-2] == re.match(r"trait (\w+)", function.owner)[1]]
-    else:
-        its_type, trait, arguments = owner_words(function.owner)
-        if not trait:
-            # named below the module of its type, which may be another
-            fits = [it for it in names if it.endswith(f"::{its_type}::{function.name}")]
-        exact = [it for it in fits if it.split("::")[-2] == its_type + trait + arguments]
-        fits = exact or [it for it in fits if it.split("::")[-2].startswith(its_type + trait)]
-    if len(fits) != 1:
-        return None
-    folder, goals = fits[0].split("::")[1:], ""
-    if function.cycle:
-        # one proof for all functions of the cycle
-        folder, goals = [*module.split("::")[1:], f"+{function.cycle}"], f"{function.name}-"
-    return fits[0], f"proofs/{'/'.join(folder)}/", goals
 
 
 def owner_words(header):
@@ -201,15 +173,16 @@ def listed(text):
 
 
 def words(text, parameters):
-    """Returns the words that rattle makes of a type: RefSliceU8 of &[u8], VecU8 of Vec<u8>, and nothing of a parameter."""
+    """Returns the words that rattle makes of a type: RefSliceU8 of &[u8], ArrayU84 of [u8; 4], VecU8 of Vec<u8>, and nothing of a parameter."""
     text = text.strip()
     if text in parameters or text.startswith("'"):
         return ""
     if text.startswith("&"):
-        return "Ref" + words(re.sub(r"^&\s*('\w+\s*)?(mut\s+)?", "", text), parameters)
+        mutable, of = re.match(r"&\s*(?:'\w+\s*)?(mut\s+)?(.*)", text, re.S).groups()
+        return ("RefMut" if mutable else "Ref") + words(of, parameters)
     if text.startswith("["):
         of, _, length = text[1:-1].partition(";")
-        return ("Array" if length else "Slice") + words(of, parameters)
+        return ("Array" if length else "Slice") + words(of, parameters) + words(length, parameters)
     if text.startswith("("):
         parts = listed(text[1:-1])
         return (f"Tuple{len(parts)}" if parts else "Unit") + "".join(words(it, parameters) for it in parts)

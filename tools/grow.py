@@ -1,6 +1,6 @@
-"""Grows random trees, each with its row for the program tool_trees.
+"""Grows random trees, each with its row for the program tests/trees.
 
-A row has the tokens of a tree in reverse Polish notation (crates/tool_trees/src/main.rt). Lengths are often near the
+A row has the tokens of a tree in reverse Polish notation (tests/trees/main.rt.in). Lengths are often near the
 limits of the short forms, numbers near the boundaries of their widths, and characters often those that a text escapes.
 """
 

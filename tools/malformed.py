@@ -1,4 +1,4 @@
-"""Grows rows of malformed input for the program tool_trees: encodings in forms chosen at random, with random faults.
+"""Grows rows of malformed input for the program tests/trees: encodings in forms chosen at random, with random faults.
 
 A fault changes a code, a size, a count or the content of a payload. The sizes of the compounds around it are computed
 afterwards, so that the fault is met where it is and not at the outermost size. An encoding has no fault or several. Then it

@@ -1,4 +1,4 @@
-"""Fails where a public call takes memory and the table at the head of the program tool_memory does not have it.
+"""Fails where a public call takes memory and the table at the head of the program tests/memory does not have it.
 
 A call takes memory
 
@@ -123,7 +123,7 @@ def wanted():
 
 
 def table():
-    text = (ROOT / "tool_memory/src/main.rt").read_text()
+    text = (ROOT.parent / "tests/memory/main.rt.in").read_text()
     return {call for row in re.findall(r"^//! \| (.*) \|", text, re.M) for call in re.findall(r"`([\w:]+)`", row)}
 
 
@@ -131,12 +131,12 @@ def main():
     calls, known = wanted(), table()
     missing, gone = sorted(calls - known), sorted(known - calls)
     for call in missing:
-        print(f"{call} takes memory, and is not in the table of tool_memory")
+        print(f"{call} takes memory, and is not in the table of tests/memory")
     for call in gone:
-        print(f"{call} stands in the table of tool_memory, and is no public call that takes memory")
+        print(f"{call} stands in the table of tests/memory, and is no public call that takes memory")
     if missing or gone:
         sys.exit(1)
-    print(f"{len(calls)} public calls that take memory stand in the table of tool_memory")
+    print(f"{len(calls)} public calls that take memory stand in the table of tests/memory")
 
 
 main()

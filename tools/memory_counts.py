@@ -1,9 +1,9 @@
-"""Compares what the lines of tool_memory and the rows of test_rows take of memory with tools/memory_counts.txt.
+"""Compares what the lines of tests/memory and the rows of tests/rows take of memory with tools/memory_counts.txt.
 
     python3 tools/memory_counts.py SHIM [--write]    SHIM is tools/refuse_alloc.c, compiled
 
 A line of tools/memory_counts.txt has the number of requests for memory, the bytes that they ask for in all, and what makes them:
-a line of the part `calls` or `large` of tool_memory, or a row of crates/tool_memory/rows or optional_rows or of `COUNTED`. A line
+a line of the part `calls` or `large` of tests/memory, or a row of tests/memory/rows or optional_rows or of `COUNTED`. A line
 or a row that makes more requests, or asks for more bytes, fails, as does one that the file does not have. Less passes: --write
 notes it, and what is new. A row is run alone, and what the program takes without it is subtracted.
 
@@ -114,7 +114,7 @@ GROWTH = [
 def run(program, rows, *words):
     """The numbers that the shim prints for each line of output, and at the end."""
     shim = os.environ | {"LD_PRELOAD": sys.argv[1], "COUNT": "1"}
-    done = subprocess.run([ROOT / f"crates/{program}/out/{program}", *words], input=rows, capture_output=True, text=True, env=shim)
+    done = subprocess.run([ROOT / "out/tests" / program, *words], input=rows, capture_output=True, text=True, env=shim)
     if done.returncode:
         sys.exit(f"{program} ends with the status {done.returncode}: {rows[:80]}")
     return done.stdout.splitlines(), [tuple(map(int, line.split())) for line in done.stderr.splitlines()]
@@ -122,7 +122,7 @@ def run(program, rows, *words):
 
 def of_row(row):
     """What the row takes: requests, bytes, and bytes that are not freed."""
-    with_row, without = (run("test_rows", f"{line}\n")[1][-1] for line in (row, "#" + row[1:]))
+    with_row, without = (run("rows", f"{line}\n")[1][-1] for line in (row, "#" + row[1:]))
     return tuple(one - other for one, other in zip(with_row, without))
 
 
@@ -130,13 +130,13 @@ def taken():
     """What each line and each row takes."""
     found = {}
     for part in ("calls", "large"):
-        lines, ends = run("tool_memory", "", part)
+        lines, ends = run("memory", "", part)
         before = (0, 0, 0)
         for line, end in zip(lines, ends):
             found[line] = tuple(now - then for now, then in zip(end, before))
             before = end
     for name in ("rows", "optional_rows"):
-        for row in (ROOT / "crates/tool_memory" / name).read_text().splitlines():
+        for row in (ROOT / "tests/memory" / name).read_text().splitlines():
             found[row] = of_row(row)
     return found | {row: of_row(row) for row in COUNTED}
 

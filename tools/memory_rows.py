@@ -1,20 +1,20 @@
-"""Runs the program test_rows once for each of its allocations, with that one failing.
+"""Runs the program tests/rows once for each of its allocations, with that one failing.
 
     python3 tools/memory_rows.py SHIM    SHIM is tools/refuse_alloc.c, compiled
 
-The input is crates/tool_memory/rows. Each of its lines is a row of crates/test_rows/stdin too, and must have the result of
-crates/test_rows/stdout while no allocation fails. The first allocations hold the input and the output as a whole: while one of them
-fails, the program must print nothing and end with status 1. While any other one fails, it must end with status 0, and one line must
-differ: it must have `<out of memory>` in place of its result or of a part of it.
+The input is tests/memory/rows. Each of its lines is a row of tests/rows/stdin or crates/test_rows/stdin too, and must have the
+result of the file stdout beside it while no allocation fails. Each row is run alone. The first allocations hold the input and the
+output as a whole: while one of them fails, the program must print nothing and end with status 1. While any other one fails, it must
+end with status 0, and its line must have `<out of memory>` in place of its result or of a part of it.
 
 While an allocation for the headers of a `Value` fails, which a call of `to_vec` makes for the value as a whole, no line may differ: the
 headers are recorded part by part then. `HEADERS` is the number of these. While an allocation fails that a call which reads a type from
 bytes makes in one pass, no line may differ either: the call reads the type from an untyped value then. `ONE_PASS` is the number of these.
 
-The rows of crates/tool_memory/optional_rows make calls that go on without some of their allocations: the hashes of keys, the index of
+The rows of tests/memory/optional_rows make calls that go on without some of their allocations: the hashes of keys, the index of
 a map, the capacity of a list. They are run likewise, with `OPTIONAL` allocations that may fail without a change.
 
-The rows of crates/tool_memory/deep_rows read deep and wide values of about a mebibyte. They must have their results while each
+The rows of tests/memory/deep_rows read deep and wide values of about a mebibyte. They must have their results while each
 allocation of more than 16 MiB fails.
 
 Each run must free all that it took, whatever allocation fails.
@@ -25,7 +25,7 @@ import subprocess
 import sys
 from pathlib import Path
 
-ROOT = Path(__file__).resolve().parent.parent / "crates"
+ROOT = Path(__file__).resolve().parent.parent
 REFUSED = "<out of memory>"
 # Of the table of headers of each `Value` that is written, also inside a typed value: one for 4 headers, and one whenever it grows.
 HEADERS = 167
@@ -41,7 +41,7 @@ OPTIONAL = 65 + 297
 def run(rows, **refused):
     """The status and the standard output of the program, and how many allocations it made. All must be freed at its end."""
     shim = os.environ | {"LD_PRELOAD": sys.argv[1], "COUNT": "1"} | refused
-    done = subprocess.run([ROOT / "test_rows/out/test_rows"], input=rows, capture_output=True, text=True, env=shim)
+    done = subprocess.run([ROOT / "out/tests/rows"], input=rows, capture_output=True, text=True, env=shim)
     requests, _, kept = map(int, done.stderr.splitlines()[-1].split())
     if kept:
         wrong(f"{kept} bytes are not freed with {refused}")
@@ -49,17 +49,18 @@ def run(rows, **refused):
 
 
 def wrong(words):
-    sys.exit(f"test_rows: {words}")
+    sys.exit(f"tests/rows: {words}")
 
 
 def rows_of(name):
-    """The rows of a file of tool_memory, and the lines that they must print."""
-    source, results = ((ROOT / "test_rows" / part).read_text().splitlines() for part in ("stdin", "stdout"))
-    result = dict(zip(source, results))
-    rows = (ROOT / "tool_memory" / name).read_text().splitlines()
+    """The rows of a file of tests/memory, and the lines that they must print."""
+    result = {}
+    for folder in ("tests/rows", "crates/test_rows"):
+        result |= zip(*((ROOT / folder / part).read_text().splitlines() for part in ("stdin", "stdout")))
+    rows = (ROOT / "tests/memory" / name).read_text().splitlines()
     for row in rows:
         if row not in result:
-            wrong(f"{row} stands in tool_memory/{name}, and not in test_rows/stdin")
+            wrong(f"{row} stands in tests/memory/{name}, and in no file stdin of rows")
     return "".join(f"{row}\n" for row in rows), "".join(f"{result[row]}\n" for row in rows)
 
 
@@ -87,29 +88,32 @@ def is_refused(line, full):
     return row == wanted and refused == 1
 
 
-def fail_each(name, optional):
-    """Runs the rows of a file with each allocation failing in turn; `optional` of them may fail without a change."""
-    rows, expected = rows_of(name)
-    status, printed, requests = run(rows, REFUSE="0")
-    first, unchanged, lines = 0, 0, expected.splitlines()
-    if (status, printed) != (0, expected):
-        wrong(f"with no allocation failing the results are wrong (status {status}): {set(printed.splitlines()) - set(lines)}")
+def fail_row(row, full):
+    """Runs a row with each allocation failing in turn. Returns how many there are, how many end the program, and how many change
+    nothing."""
+    status, printed, requests = run(row, REFUSE="0")
+    first, unchanged = 0, 0
+    if (status, printed) != (0, full):
+        wrong(f"with no allocation failing the result is wrong (status {status}): {printed}")
     for number in range(1, requests + 1):
-        status, printed, _ = run(rows, REFUSE=str(number))
+        status, printed, _ = run(row, REFUSE=str(number))
         if (status, printed, first) == (1, "", number - 1):
             first = number
-            continue
-        if optional and (status, printed) == (0, expected):
+        elif (status, printed) == (0, full):
             unchanged += 1
-            continue
-        changed = [(line, full) for line, full in zip(printed.splitlines(), lines) if line != full]
-        is_right = status == 0 and printed.count("\n") == len(lines) and len(changed) == 1
-        if not is_right or not is_refused(*changed[0]):
-            wrong(f"allocation {number} failed, and the lines that changed are wrong (status {status}): {changed or printed}")
+        elif status or printed.count("\n") != 1 or not is_refused(printed.rstrip("\n"), full.rstrip("\n")):
+            wrong(f"allocation {number} failed, and the line that came is wrong (status {status}): {printed} in place of {full}")
+    return requests, first, unchanged
+
+
+def fail_each(name, optional):
+    """Runs each row of a file with each allocation failing in turn; `optional` of them in all may fail without a change."""
+    found = [fail_row(*both) for both in zip(*(text.splitlines(True) for text in rows_of(name)))]
+    requests, first, unchanged = map(sum, zip(*found))
     if unchanged != optional:
         wrong(f"{unchanged} allocations of {name} failed without a change, not {optional}")
     ended = f"{first} ended the program, {unchanged} changed nothing and all others ended one call"
-    print(f"of {requests} allocations of {name}, each failing in turn, {ended}")
+    print(f"of {requests} allocations of {len(found)} rows of {name}, each failing in turn, {ended}")
 
 
 def main():

@@ -1,4 +1,4 @@
-"""The trees of the nodes that the program tool_trees makes, their images, and the tree of a row.
+"""The trees of the nodes that the program tests/trees makes, their images, and the tree of a row.
 
 A tree is a tuple of its kind and its content (definitions.py). A node that has no tree is None. The image of a lazy part
 is the value that its bytes encode, at most 256 deep.
@@ -8,7 +8,7 @@ from decoding import decoded, frame_len, gathered
 from definitions import INVALID, Refused
 
 
-# The limit of the token `limited` (crates/tool_trees/src/row.rt).
+# The limit of the token `limited` (tests/trees/row.rt.in).
 LIMIT = 1000
 
 
@@ -157,7 +157,7 @@ def pushed(stack, token):
 
 
 def tree_of(row):
-    """The tree of a row in reverse Polish notation (crates/tool_trees/src/main.rt)."""
+    """The tree of a row in reverse Polish notation (tests/trees/main.rt.in)."""
     stack = []
     for token in row.split(" "):
         stack.append(pushed(stack, token))

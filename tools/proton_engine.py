@@ -1,4 +1,4 @@
-"""A conversation with Qpid Proton's engine, in memory: it takes each frame that tool_types writes, and tool_types reads each that it answers."""
+"""A conversation with Qpid Proton's engine, in memory: it takes each frame that tests/types writes, and tests/types reads each that it answers."""
 
 from proton import (Array, Condition, Connection, Data, Delivery, Described, Link, Message, Terminus, Transport, UNDESCRIBED, symbol, ubyte, uint,
                     ulong, ushort)

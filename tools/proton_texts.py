@@ -1,4 +1,4 @@
-"""The text by which the program tool_types shows a value, from the value as Qpid Proton decodes it and the standard's table."""
+"""The text by which the program tests/types shows a value, from the value as Qpid Proton decodes it and the standard's table."""
 
 from pathlib import Path
 

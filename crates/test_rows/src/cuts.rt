@@ -1,6 +1,6 @@
 //! Calls that find the end of an encoded value without decoding its payload.
 
-use crate::notation::word_of;
+use crate::notation::{bytes_of, number_of, word_of};
 use crate::row::refusal;
 use amqp_data::Error;
 use amqp_decode::decode_value;
@@ -37,6 +37,29 @@ fn next(alloc: Global, reader: &mut SliceReader<'_>) -> Result<String, Error> {
         Ok(value) => word_of(alloc, value.as_slice()),
         Err(error) => refusal(alloc, &error),
     }
+}
+
+/// Takes an encoded value of at most this length from a reader; the arguments are `LENGTH BYTES`.
+/// Returns its bytes or the error, and the bytes that are left.
+pub fn cut_within(alloc: Global, arguments: &str) -> Result<String, Error> {
+    let Some((limit, bytes)) = arguments.split_once(' ') else {
+        return Err(Error::Message("one argument"));
+    };
+    let bytes = bytes_of(alloc, bytes)?;
+    let limit = number_of(limit)? as usize;
+    let mut reader = SliceReader::new(&bytes);
+    let taken = match LazyValue::from_reader_limited(alloc, &mut reader, limit) {
+        Ok(value) => word_of(alloc, value.as_slice())?,
+        Err(Error::OutOfMemory) => return Err(Error::OutOfMemory),
+        Err(error) => refusal(alloc, &error)?,
+    };
+    let mut left = Vec::new(alloc);
+    for _ in 0..bytes.len() {
+        if let Some(byte) = reader.next()? {
+            left.push(byte)?;
+        }
+    }
+    Ok(format!(in alloc; "{taken} {}", word_of(alloc, &left)?)?)
 }
 
 /// Returns the number of proper prefixes of the bytes, and the number of incomplete ones.

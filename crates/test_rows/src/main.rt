@@ -21,46 +21,16 @@
 //! | `cut BYTES` | the result of each call of `LazyValue::from_reader` until no byte is left |
 //! | `cut_within LENGTH BYTES` | the result of `LazyValue::from_reader_limited`, and the bytes that are left |
 //! | `prefixes BYTES` | the number of proper prefixes, and of incomplete ones |
-//! | `read TYPE BYTES` | the value as this type: its results |
-//! | `once TYPE BYTES` | like `read`, by `Deserialize::read_encoded` alone |
-//! | `field TYPE BYTES` | what could not be read, by `from_value_located` and `from_slice_located`: the error, the name, the index, the types wanted and found |
-//! | `read_within LENGTH/ELEMENTS/LEVELS BYTES` | the `Value` by `from_slice_limited` and `from_reader_limited`: its results |
-//! | `readers BYTES` | the scalar types that read the value; for all others it is invalid |
-//! | `parts READER BYTES` | the value by this reader (`parts`, `visitors`): its `Debug` text |
-//! | `visit CALL BYTES` | the visit that this call of a deserializer makes (`visits`) |
-//! | `calls BYTES` | the calls that make a visit for the value; for all others it is invalid |
-//! | `round_trip TYPE BYTES` | like `read`, by `round_trip` and `round_trip_bytes` |
-//! | `write FAMILY NAME` | the sample with this name (`samples`): its results |
-//! | `lazy BYTES` | the lazy value at the start of the bytes: its results |
-//! | `hold BYTES` | the lazy value of the value: its results |
-//! | `array_of BYTES` | the array of the elements of the list: its results |
-//! | `marked MARKER BYTES` | the newtype with this marker around the value: both results |
-//! | `marked_transparent MARKER BYTES` | the same around the transparent vector of the ubytes |
-//! | `after BYTES` | the ubyte 1 described by the value: both results |
-//!
-//! The results of a value are its size, its bytes, and its image like `decode` (`results`). Both
-//! results are those of the value, and of the list of the ubyte 1 and the value.
 //!
 //! An error is printed in angle brackets. The bytes of a value show its kind, which its text does
-//! not.
+//! not. The rows of calls that read or write a type are in `tests/rows`, a program that has these
+//! calls too.
 #![tactic(auto)]
 
-mod composites;
-mod compounds;
 mod cuts;
-mod limited;
-mod located;
-mod marked;
 mod notation;
-mod parts;
-mod results;
 mod row;
-mod samples;
-mod trips;
-mod types;
 mod values;
-mod visitors;
-mod visits;
 
 use std::io;
 use std::io::{BufWriter, Write};

@@ -1,8 +1,6 @@
 //! The call of a row.
 
-use crate::{
-    cuts, limited, located, marked, notation, parts, results, samples, trips, types, values, visits,
-};
+use crate::{cuts, notation, values};
 use amqp_data::Error;
 use std::alloc::Global;
 
@@ -14,19 +12,9 @@ pub fn answer(alloc: Global, line: &str) -> Result<String, Error> {
     match call {
         "decode_within" => values::decode_within(alloc, arguments),
         "place_within" => values::place_within(alloc, arguments),
-        "read_within" => limited::read_within(alloc, arguments),
-        "cut_within" => limited::cut_within(alloc, arguments),
-        "round_trip" => trips::round_trips(alloc, arguments),
+        "cut_within" => cuts::cut_within(alloc, arguments),
         "text" => values::text(alloc, arguments),
         "compare" => values::compare(alloc, arguments),
-        "read" => types::read(alloc, arguments, false),
-        "field" => located::field(alloc, arguments),
-        "once" => types::read(alloc, arguments, true),
-        "parts" => parts::parts(alloc, arguments),
-        "visit" => visits::visit(alloc, arguments),
-        "write" => samples::write(alloc, arguments),
-        "marked" => marked::marked(alloc, arguments),
-        "marked_transparent" => marked::marked_transparent(alloc, arguments),
         _ => of_bytes(alloc, call, &notation::bytes_of(alloc, arguments)?),
     }
 }
@@ -37,7 +25,6 @@ fn of_bytes(alloc: Global, call: &str, bytes: &[u8]) -> Result<String, Error> {
         "decode" => values::decode(alloc, bytes),
         "whole" => values::whole(alloc, bytes),
         "long" => values::long(alloc, bytes),
-        "calls" => visits::calls(alloc, bytes),
         "code" => values::code(alloc, bytes),
         "place" => values::place(alloc, bytes),
         "count" => values::count(alloc, bytes),
@@ -46,11 +33,6 @@ fn of_bytes(alloc: Global, call: &str, bytes: &[u8]) -> Result<String, Error> {
         "frame" => cuts::frame(alloc, bytes),
         "cut" => cuts::cut(alloc, bytes),
         "prefixes" => cuts::prefixes(alloc, bytes),
-        "readers" => types::readers(alloc, bytes),
-        "lazy" => results::lazy(alloc, bytes),
-        "hold" => results::hold(alloc, bytes),
-        "array_of" => marked::array_of(alloc, bytes),
-        "after" => marked::after(alloc, bytes),
         _ => Err(Error::Message("no such call")),
     }
 }

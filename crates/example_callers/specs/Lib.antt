@@ -1,6 +1,0 @@
--- Contracts of public items and the trees of public types depend on these.
-pub mod Blank
-pub mod Kept
-pub mod Nodes
-pub mod PendingMarker
-pub mod Sections

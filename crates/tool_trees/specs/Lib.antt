@@ -1,3 +1,0 @@
--- These two modules define the tree of a node.
-pub mod Fed
-pub mod TreeOf
