@@ -8,6 +8,7 @@ pub mod Leaves
 pub mod Fillings
 pub mod Readings
 pub mod MapReadings
+mod LaterKeys
 pub mod Chunks
 pub mod FieldLemmas
 pub mod NamedFillings

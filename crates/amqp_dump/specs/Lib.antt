@@ -1,3 +1,4 @@
 -- Definitions in the contracts of public items.
 pub mod Kept
+pub mod Masks
 pub mod Safe

@@ -1,0 +1,23 @@
+use Rattle.std.proofs.Common.{◌≡◌, true}
+use Rattle.std.proofs.lemmas.Cmp.{nat_eq_equiv, nat_list_eq_equiv}
+use Rattle.amqp_data.specs.Text.{symbol_text}
+use Rattle.amqp_ser.specs.Tree.{Tree}
+use Rattle.amqp_messaging.specs.contracts.identifiers.AnnotationKeyDeserialize.TheImpl as own
+use Rattle.amqp_messaging.specs.contracts.identifiers.AnnotationKeyPartialEq.TheImpl as equality
+use Rattle.amqp_messaging.specs.declared.identifiers.AnnotationKey.{AnnotationKey}
+use Rattle.amqp_messaging.specs.declared.identifiers.AnnotationKey.TheVariants as variant
+use Rattle.amqp_messaging.proofs.identifiers.AnnotationKeyDeserialize.have_distinct_trees.Goals as goal
+
+-- Keys that are read from one tree are equal.
+same_key : (t : Tree) (x y : AnnotationKey) → own.ghosts.reads t x → own.ghosts.reads t y → equality.ghosts.eq x y ≡ true
+same_key t (variant.Symbol a) (variant.Symbol b) r s =
+    let same : symbol_text a ≡ symbol_text b = cc in
+    rw same (nat_list_eq_equiv.refl (symbol_text b))
+same_key t (variant.Symbol a) (variant.Ulong b) r s = absurd cc
+same_key t (variant.Ulong a) (variant.Symbol b) r s = absurd cc
+same_key t (variant.Ulong a) (variant.Ulong b) r s =
+    let same : a ≡ b = cc in
+    rw same (nat_eq_equiv.refl b)
+
+pub keys_and_trees_differ-requires : goal.keys_and_trees_differ-requires
+keys_and_trees_differ-requires g c = same_key
