@@ -38,18 +38,11 @@ def match_self(arms):
     return "        match self {\n" + "".join(f"            {arm} => {value},\n" for arm, value in arms) + "        }\n"
 
 
-def deserialize(t, members, body, allocates, more="", encoded="", methods=""):
-    encoded = (read_encoded(t, encoded) if encoded else "") + methods
+def deserialize(t, members, body, allocates, more="", encoded=""):
+    encoded = read_encoded(t, encoded) if encoded else ""
     return f"impl Deserialize for {t.name} {{\n" + ghosts(members, more) + \
         f'    fn deserialize<D: Deserializer>({"" if allocates else "_"}alloc: Global, deserializer: D) -> Result<{t.name}, D::Error> {{\n' \
         f"{body}    }}\n{encoded}}}\n"
-
-
-def distinct(t):
-    """The method that tells the keys of a map apart, of a key with an order."""
-    if "map_key" not in t.flags or not t.ordered or not t.one_pass:
-        return ""
-    return f"\n    fn have_distinct_trees<V>(alloc: Global, entries: &[({t.name}, V)]) -> bool {{\n        keys_and_trees_differ(alloc, entries)\n    }}\n"
 
 
 def round_trip(t, *calls):
@@ -133,7 +126,7 @@ def scalar(t):
     encoded = "        let start = *input;\n" + "        *input = start;\n".join(
         f"        if let Ok(value) = <{v.type} as Deserialize>::read_encoded(alloc, code, input, depth) {{\n"
         f"            return Ok({t.name}::{v.name}(value));\n        }}\n" for v in t.variants) + "        Err(GaveUp)\n"
-    out += [deserialize(t, members, body, False, variants_of(t), encoded, distinct(t))] if t.reads else []
+    out += [deserialize(t, members, body, False, variants_of(t), encoded)] if t.reads else []
     out += [round_trip(t)] if t.round_trips else []
     return out + ([f"impl MapKey for {t.name} {{\n    fn image_is_injective() {{}}\n}}\n"] if "map_key" in t.flags else [])
 

@@ -69,8 +69,6 @@ class Type:
         self.composite = bool(self.code and self.symbol) and not is_enum
         # written and read as its only field
         self.transparent = self.encoding == "basic" and not (self.code or self.symbol)
-        # derives Hash and Ord
-        self.ordered = False
 
     def descriptor(self):
         """The descriptor that is written, as a term."""
@@ -281,8 +279,6 @@ def types_of(text):
         if head.group(3):
             raise Wrong(number, f"{name} has type parameters: write its impls by hand")
         t = Type(number, name, is_enum, opens == "(", said, flags)
-        derived = re.findall(r"\w+", " ".join(re.findall(r"#\[derive\(([^)]*)\)\]", head.group(0))))
-        t.ordered = {"Hash", "Ord"} <= set(derived)
         if is_enum != (t.encoding in ENUM_ENCODINGS):
             known = " or ".join(ENUM_ENCODINGS if is_enum else STRUCT_ENCODINGS)
             raise Wrong(number, f'{name} is {"an enum" if is_enum else "a struct"}, whose encoding is {known}, not "{t.encoding}"')

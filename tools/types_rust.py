@@ -7,7 +7,7 @@ import textwrap
 COMMON = "amqp_messaging"
 PRIMITIVES = ("ByteBuf", "Multiple", "OrderedMap", "Symbol", "Timestamp", "Uuid")
 # the types that are not Copy, nor compared with Eq
-DERIVE = {"choice": "Debug, Clone, Copy, PartialEq, Eq", "key": "Debug, PartialEq, Eq, PartialOrd, Ord, Hash, Drop", "": "Debug, PartialEq, Drop"}
+DERIVE = {"choice": "Debug, Clone, Copy, PartialEq, Eq", "key": "Debug, PartialEq, Eq, Hash, Drop", "": "Debug, PartialEq, Drop"}
 
 
 def doc(text, indent=""):

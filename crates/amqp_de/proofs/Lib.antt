@@ -8,7 +8,6 @@ pub mod Leaves
 pub mod Fillings
 pub mod Readings
 pub mod MapReadings
-mod LaterKeys
 pub mod Chunks
 pub mod FieldLemmas
 pub mod NamedFillings

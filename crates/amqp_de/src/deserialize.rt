@@ -4,7 +4,6 @@ ghost use Rattle.std.specs.Prelude.{◌∷◌, suc, IfOk, List};
 ghost use Rattle.std.specs.Bool.{OnTrue};
 ghost use Rattle.std.specs.List.{AllZip};
 ghost use Rattle.std.specs.Map.{keys_of};
-ghost use Rattle.amqp_data.specs.Pairs.{AreDistinct};
 ghost use Rattle.amqp_ser.specs.Tree.{Tree};
 ghost use Rattle.amqp_decode.specs.Parsed.{parse};
 ghost use Rattle.amqp_decode.specs.Prefix.{item_of};
@@ -134,8 +133,8 @@ pub trait Deserialize: Sized + Drop {
         }
     }
 
-    /// Returns true if it is certain that no two keys of these entries are equal, and that they are
-    /// read from distinct trees. `read_encoded` of a map asks its type of keys, and gives up on false.
+    /// Returns true if it is certain that the keys of these entries are read from distinct trees.
+    /// `read_encoded` of a map asks its type of keys, and gives up on false.
     ///
     /// The provided method returns false.
     ///
@@ -145,11 +144,8 @@ pub trait Deserialize: Sized + Drop {
     /// # Example
     /// As `u32`, for the keys 2 and 1, returns true. For the keys 2 and 2, returns false.
     fn have_distinct_trees<V>(alloc: Global, entries: &[(Self, V)]) -> bool
-    where
-        Self: Eq,
-        ensures trees { OnTrue result ((ts : List Tree) →
+        ensures { OnTrue result ((ts : List Tree) →
             AllZip reads ts (keys_of entries.now) → AreApart ts) }
-        ensures keys { OnTrue result (AreDistinct Self.eq (keys_of entries.now)) }
     {
         false
     }

@@ -14,5 +14,3 @@ mod numbers;
 mod primitives;
 mod texts;
 mod tuples;
-
-pub use encoded_maps::keys_and_trees_differ;

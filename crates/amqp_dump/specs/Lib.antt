@@ -1,4 +1,3 @@
 -- Definitions in the contracts of public items.
 pub mod Kept
-pub mod Masks
 pub mod Safe

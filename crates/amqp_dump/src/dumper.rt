@@ -6,7 +6,6 @@ use crate::json::{Json, push_json_fault};
 use crate::level::{Level, LevelKind};
 use crate::line::Line;
 use crate::marks::Marks;
-use crate::masks::Masks;
 use crate::options::{Form, Options};
 use crate::scanner::Scanner;
 use crate::select::Selector;
@@ -40,7 +39,6 @@ struct Dumper {
     marks: Marks,
     json: Json,
     line: Line,
-    masks: Masks,
     // The depth of the value that is selected, if one is.
     selected: Option<usize>,
     // Whether the rest of the frame has no JSON.
@@ -58,12 +56,10 @@ struct Dumper {
 /// [`Fault::OutOfMemory`] if an allocation fails. What was shown before is written first. A fault of
 /// the input is no error: it is shown, and counted in the report.
 ///
-/// At most 256 bytes are written for a byte of the input, and 1 MiB.
-///
 /// # Memory
 ///
-/// One entry and one mask of the path for each open value, one item, and 8 KiB of text. A JSON
-/// object is kept until it is whole.
+/// One entry for each open value, one item, and 8 KiB of text. A JSON object is kept until it is
+/// whole.
 pub fn run<S: Taking, W: Write>(
     alloc: Global,
     source: &mut S,
@@ -82,7 +78,6 @@ pub fn run<S: Taking, W: Write>(
         marks: Marks::new(alloc),
         json: Json::new(alloc),
         line: Line::new(alloc, options.color),
-        masks: Masks::new(alloc),
         selected: None,
         is_muted: false,
         report: Report {
@@ -156,10 +151,9 @@ impl Dumper {
 
     // Shows an item.
     fn show(&mut self, item: Item, bytes: &[u8], selector: Option<&Selector>) -> Result<(), Fault> {
-        let levels = self.scanner.levels();
-        self.report.summary.add(item, levels, bytes.len());
+        self.report.summary.add(item, bytes.len());
         if self.options.form == Form::Tree {
-            self.marks.add(item, levels, bytes)?;
+            self.marks.add(item, self.scanner.levels(), bytes)?;
         }
         if !self.is_selected(item, selector)? {
             return Ok(());
@@ -206,7 +200,6 @@ impl Dumper {
         let Some(selector) = selector else {
             return Ok(true);
         };
-        self.masks.close(item.depth);
         if self.selected.is_some() {
             return Ok(true);
         }
@@ -219,9 +212,7 @@ impl Dumper {
             ItemKind::Described(code) => code,
             _ => None,
         };
-        let roots = self.scanner.roots();
-        let masks = &mut self.masks;
-        let is_selected = selector.selects(self.alloc, masks, roots, outer, descriptor)?;
+        let is_selected = selector.selects(self.alloc, self.scanner.roots(), outer, descriptor)?;
         if is_selected {
             self.selected = Some(item.depth);
         }

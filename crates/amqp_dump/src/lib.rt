@@ -7,7 +7,6 @@
 mod compounds;
 mod describe;
 mod dumper;
-mod elements;
 mod fault;
 mod frames;
 mod hex_reader;
@@ -17,7 +16,6 @@ mod kinds;
 mod level;
 mod line;
 mod marks;
-mod masks;
 pub mod names;
 mod options;
 mod path;

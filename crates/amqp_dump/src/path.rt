@@ -24,8 +24,8 @@ pub(crate) fn field_of(level: &Level) -> Option<&'static str> {
     found.fields.get(level.index as usize - 1).copied()
 }
 
-/// Returns the step into the level.
-pub(crate) fn step_of(level: &Level) -> Option<Step> {
+// Returns the step into the level.
+fn step_of(level: &Level) -> Option<Step> {
     let index = u64::from(level.index).checked_sub(1);
     match level.kind {
         LevelKind::Described => Some(Step::Described(level.descriptor?)),

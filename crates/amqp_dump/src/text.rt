@@ -22,8 +22,7 @@ pub(crate) fn push_text(
     in_payload: bool,
 ) -> Result<(), Fault> {
     let (outer, _) = levels.split_at(item.depth.min(levels.len()));
-    let is_all = matches!(item.kind, ItemKind::Repeats(_));
-    if item.kind.begins_value() && !is_all && item.depth > base {
+    if item.kind.begins_value() && item.depth > base {
         line.push(separator(outer))?;
     }
     match item.kind {

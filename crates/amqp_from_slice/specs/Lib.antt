@@ -1,5 +1,4 @@
 -- Contracts of public items rest on them.
 pub mod ReadsSpelled
-pub mod Arrays
 pub mod Limited
 pub mod LocatedErrors

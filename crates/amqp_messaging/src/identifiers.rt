@@ -35,7 +35,7 @@ pub enum Address {
 /// # Encoding
 /// The value of the variant.
 // amqp: encoding = "scalar", map_key
-#[derive(Debug, PartialEq, Eq, PartialOrd, Ord, Hash, Drop)]
+#[derive(Debug, PartialEq, Eq, Hash, Drop)]
 pub enum AnnotationKey {
     /// A symbol.
     Symbol(Symbol),
@@ -46,7 +46,7 @@ pub enum AnnotationKey {
 // amqp: the impls below are written by tools/derive from the annotations above
 use serde_amqp::derive::{
     Content, Deserialize, DeserializeError, Deserializer, GaveUp, Global, MapKey, RoundTrip,
-    Serialize, Serializer, keys_and_trees_differ,
+    Serialize, Serializer,
 };
 
 impl Serialize for MessageId {
@@ -228,10 +228,6 @@ impl Deserialize for AnnotationKey {
             return Ok(AnnotationKey::Ulong(value));
         }
         Err(GaveUp)
-    }
-
-    fn have_distinct_trees<V>(alloc: Global, entries: &[(AnnotationKey, V)]) -> bool {
-        keys_and_trees_differ(alloc, entries)
     }
 }
 

@@ -1,14 +1,14 @@
 //! Frames at the start of bytes.
 
-ghost use Rattle.std.specs.Prelude.{◌≡◌, ◌≤◌, ◌++◌, None, Some, IfOk, IfErr, IfSome, IfNone, length};
+ghost use Rattle.std.specs.Prelude.{◌≡◌, ◌≤◌, ◌++◌, IfOk, IfErr, IfSome, IfNone, length};
 ghost use Rattle.amqp_frame.specs.Frame.{IsFrame, HasFrame};
 ghost use Rattle.amqp_transport.specs.Frames.{header_bytes, HasLengths, ReadsBody, RefusesBody, RefusesFrame};
 
 use crate::error::FrameError;
 use crate::header::FrameHeader;
 use serde_amqp::de::Deserialize;
+use serde_amqp::from_slice;
 use serde_amqp::lazy::frame_len;
-use serde_amqp::{Limits, from_slice_within};
 use std::alloc::Global;
 
 /// A frame, whose parts borrow the bytes that it was read from.
@@ -84,8 +84,7 @@ impl<'a> Frame<'a> {
     ///
     /// # Errors
     /// Returns `NoPerformative` if the body does not begin with an encoded value, as in an empty
-    /// frame, and the errors of `from_slice_limited`. A performative has at most as many array elements
-    /// without bytes as it has bytes (`Limits::for_length`): with more, it is `TooLong`.
+    /// frame, and the errors of `from_slice`.
     ///
     /// # Memory
     /// Allocates the performative from `alloc`. The payload is not copied.
@@ -93,44 +92,13 @@ impl<'a> Frame<'a> {
     /// # Example
     /// With `Performative`, the body `0053174501` gives an end and the payload `01`.
     pub fn performative<T: Deserialize>(&self, alloc: Global) -> Result<(T, &'a [u8]), FrameError>
-        ensures ok { IfOk result (λ r. ReadsBody None T.reads self.now.body.now r.0 r.1.now) }
-        ensures refused { IfErr result (RefusesBody None T.reads self.now.body.now) }
-    {
-        self.read(alloc, None)
-    }
-
-    /// Reads the performative like `performative`, within these limits.
-    ///
-    /// # Errors
-    /// Returns `NoPerformative` if the body does not begin with an encoded value, as in an empty
-    /// frame, and the errors of `from_slice_limited`.
-    ///
-    /// # Memory
-    /// Allocates the performative from `alloc`. The payload is not copied.
-    pub fn performative_with<T: Deserialize>(
-        &self,
-        alloc: Global,
-        limits: Limits,
-    ) -> Result<(T, &'a [u8]), FrameError>
-        ensures ok { IfOk result (λ r. ReadsBody (Some limits) T.reads self.now.body.now r.0 r.1.now) }
-        ensures refused { IfErr result (RefusesBody (Some limits) T.reads self.now.body.now) }
-    {
-        self.read(alloc, Some(limits))
-    }
-
-    // Reads the performative within limits.
-    fn read<T: Deserialize>(
-        &self,
-        alloc: Global,
-        limits: Option<Limits>,
-    ) -> Result<(T, &'a [u8]), FrameError>
-        ensures ok { IfOk result (λ r. ReadsBody limits T.reads self.now.body.now r.0 r.1.now) }
-        ensures refused { IfErr result (RefusesBody limits T.reads self.now.body.now) }
+        ensures ok { IfOk result (λ r. ReadsBody T.reads self.now.body.now r.0 r.1.now) }
+        ensures refused { IfErr result (RefusesBody T.reads self.now.body.now) }
     {
         let Some((bytes, payload)) = self.split_body() else {
             return Err(FrameError::NoPerformative);
         };
-        match from_slice_within::<T>(alloc, bytes, limits) {
+        match from_slice::<T>(alloc, bytes) {
             Ok(performative) => Ok((performative, payload)),
             Err(error) => Err(FrameError::Value(error)),
         }

@@ -7,10 +7,10 @@ pub use crate::de::{
     FromParts, GaveUp, ListSeed, NamedRecord, NamedSeed, Never, Optional, Record, Required,
     TypeSeed, UnitVariant, build, build_composite, build_composite_encoded, build_composite_map,
     build_composite_map_encoded, build_encoded, build_fields_map, build_fields_map_encoded,
-    build_named, build_named_encoded, build_named_map, keys_and_trees_differ, named, read,
-    read_alternatives, read_alternatives_encoded, read_composite, read_composite_encoded,
-    read_composite_map, read_composite_type, read_composite_type_encoded, read_fields_map,
-    read_named, read_named_encoded, read_named_map, read_no_fields, read_parts_encoded, variants,
+    build_named, build_named_encoded, build_named_map, named, read, read_alternatives,
+    read_alternatives_encoded, read_composite, read_composite_encoded, read_composite_map,
+    read_composite_type, read_composite_type_encoded, read_fields_map, read_named,
+    read_named_encoded, read_named_map, read_no_fields, read_parts_encoded, variants,
 };
 pub use crate::ser::{
     ListOf, MapOf, Name, Serialize, SerializeCompounds, SerializeScalars, Serializer, VariantOf,

@@ -1,6 +1,6 @@
 //! The encoded keys and values of maps.
 
-ghost use Rattle.std.specs.Prelude.{◌≡◌, suc, true, IfOk, List, position};
+ghost use Rattle.std.specs.Prelude.{◌≡◌, suc, IfOk, List, position};
 ghost use Rattle.std.specs.Bool.{OnTrue};
 ghost use Rattle.std.specs.List.{AllZip};
 ghost use Rattle.std.specs.Map.{keys_of};
@@ -17,7 +17,6 @@ use amqp_data::finds_distinct_keys;
 use amqp_decode::prefix::{GaveUp, split_byte};
 use std::alloc::Global;
 use std::cmp::Ordering;
-use std::collections::BTreeSet;
 use std::hash::Hash;
 
 /// The maximum number of entries of which each key is compared with all others.
@@ -51,7 +50,7 @@ fn read_entry<K: Deserialize, V: Deserialize>(
 /// # Memory
 /// Reserves memory for entries as `Deserialize::read_list` does for elements.
 #[inline(never)]
-pub(crate) fn read_entries<K: Deserialize + Eq, V: Deserialize>(
+pub(crate) fn read_entries<K: Deserialize, V: Deserialize>(
     alloc: Global,
     count: u32,
     body: &[u8],
@@ -78,61 +77,44 @@ pub(crate) fn read_entries<K: Deserialize + Eq, V: Deserialize>(
 }
 
 /// Returns true if it is certain that no two keys are equal, and that they are read from distinct
-/// trees. For `Deserialize::have_distinct_trees` of a type of which no tree is read as two keys that
-/// are not equal.
-///
-/// Keys that ascend are compared each with the next one, and up to 8 others each with all others. More
-/// are told apart by their hashes, or by their order if many hashes are in the same bucket.
-///
-/// # Memory
-/// For more than 8 keys that do not ascend, that of `finds_distinct_keys`, and then that of a
-/// `BTreeSet` of references, until it returns.
-///
-/// # Example
-/// For the keys 2 and 1, returns true. For the keys 2 and 2, returns false.
-pub fn keys_and_trees_differ<K: Deserialize + Hash + Ord, V>(
+/// trees.
+pub(crate) fn keys_and_trees_differ<K: Deserialize + Hash + Eq, V>(
     alloc: Global,
     entries: &[(K, V)],
 ) -> bool
-    requires { (t : Tree) (x y : K) → K.reads t x → K.reads t y → K.eq x y ≡ true }
     ensures trees { OnTrue result ((ts : List Tree) →
         AllZip K.reads ts (keys_of entries.now) → AreApart ts) }
     ensures keys { OnTrue result (AreDistinct K.eq (keys_of entries.now)) }
 {
-    keys_differ(alloc, entries)
+    if K::have_distinct_trees(alloc, entries) {
+        keys_differ(alloc, entries)
+    } else {
+        false
+    }
 }
 
-/// Returns true if it is certain that no two keys are equal, as `keys_and_trees_differ` does.
-pub(crate) fn keys_differ<K: Hash + Ord, V>(alloc: Global, entries: &[(K, V)]) -> bool
+/// Returns true if it is certain that no two keys are equal.
+///
+/// # Memory
+/// For more than 8 entries, that of `finds_distinct_keys`.
+pub(crate) fn keys_differ<K: Hash + Eq, V>(alloc: Global, entries: &[(K, V)]) -> bool
+    ensures { OnTrue result (AreDistinct K.eq (keys_of entries.now)) }
+{
+    if entries.len() <= FEW {
+        few_keys_differ(entries)
+    } else {
+        finds_distinct_keys(alloc, entries)
+    }
+}
+
+/// Like `keys_differ`, but allocates nothing if the keys ascend.
+pub(crate) fn ordered_keys_differ<K: Hash + Ord, V>(alloc: Global, entries: &[(K, V)]) -> bool
     ensures { OnTrue result (AreDistinct K.eq (keys_of entries.now)) }
 {
     if keys_ascend(entries) {
-        return true;
-    }
-    if entries.len() <= FEW {
-        return few_keys_differ(entries);
-    }
-    if finds_distinct_keys(alloc, entries) {
-        return true;
-    }
-    keys_differ_in_order(alloc, entries)
-}
-
-// Returns true if the order of the keys shows that no two are equal, and false if two are equal or an
-// allocation fails.
-fn keys_differ_in_order<K: Ord, V>(alloc: Global, entries: &[(K, V)]) -> bool
-    ensures { OnTrue result (AreDistinct K.eq (keys_of entries.now)) }
-{
-    let mut later: BTreeSet<&K> = BTreeSet::new(alloc);
-    let mut rest = entries;
-    'keys: loop {
-        match rest.split_last() {
-            Some((last, others)) => match later.insert(&last.0) {
-                Ok(true) => rest = others,
-                _ => return false,
-            },
-            None => return true,
-        }
+        true
+    } else {
+        keys_differ(alloc, entries)
     }
 }
 

@@ -10,7 +10,7 @@ use crate::deserialize::Deserialize;
 use crate::deserialize_error::DeserializeError;
 use crate::deserializer::Deserializer;
 use crate::fixed_content::FixedContent;
-use crate::impls::encoded_maps::keys_differ;
+use crate::impls::encoded_maps::ordered_keys_differ;
 use crate::impls::numbers::read_numbers;
 use amqp_data::{Dec32, Dec64, Dec128, F32Bits, F64Bits, Timestamp, Uuid};
 use amqp_decode::prefix::{
@@ -245,7 +245,7 @@ impl Deserialize for Timestamp {
     }
 
     fn have_distinct_trees<V>(alloc: Global, entries: &[(Timestamp, V)]) -> bool {
-        keys_differ(alloc, entries)
+        ordered_keys_differ(alloc, entries)
     }
 }
 
@@ -278,6 +278,6 @@ impl Deserialize for Uuid {
     }
 
     fn have_distinct_trees<V>(alloc: Global, entries: &[(Uuid, V)]) -> bool {
-        keys_differ(alloc, entries)
+        ordered_keys_differ(alloc, entries)
     }
 }

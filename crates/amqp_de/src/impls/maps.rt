@@ -16,8 +16,8 @@ use crate::content::Content;
 use crate::deserialize::Deserialize;
 use crate::deserialize_error::DeserializeError;
 use crate::deserializer::Deserializer;
-use crate::impls::encoded_maps::read_entries;
-use amqp_data::{OrderedMap, merge_repeated_keys};
+use crate::impls::encoded_maps::{keys_and_trees_differ, read_entries};
+use amqp_data::{OrderedMap, OrderedMapBuilder};
 use amqp_decode::prefix::{GaveUp, below, split_map};
 use amqp_value::ValueKind;
 use std::alloc::Global;
@@ -90,29 +90,6 @@ fn read_pairs<K: Deserialize, V: Deserialize, M: Inserts<K, V>, D: Deserializer>
     }
 }
 
-/// Makes a map of the entries, inserted in order.
-///
-/// # Errors
-/// Returns an error if an allocation fails.
-fn once_each<K: Deserialize + Hash + Eq, V: Drop>(
-    alloc: Global,
-    entries: Vec<(K, V)>,
-) -> Result<OrderedMap<K, V>, GaveUp>
-    ensures { IfOk result (HoldsInOrder K.eq entries.items) }
-{
-    if K::have_distinct_trees(alloc, &entries) {
-        return Ok(OrderedMap::from_distinct(entries));
-    }
-    let mut entries = entries;
-    if merge_repeated_keys(alloc, &mut entries)? {
-        return Ok(OrderedMap::from_distinct(entries));
-    }
-    match insert_all::<K, V, OrderedMap<K, V>>(alloc, entries) {
-        Ok(map) => Ok(map),
-        Err(error) => Err(error),
-    }
-}
-
 /// Inserts the entries in order into an empty map.
 ///
 /// # Errors
@@ -144,18 +121,15 @@ impl<K: Hash + Eq + Drop, V: Drop> Inserts<K, V> for OrderedMap<K, V> {
     }
 }
 
-impl<K: Drop, V: Drop> Inserts<K, V> for Vec<(K, V)> {
-    ghost holds = { λ done entries. entries.items ≡ done };
+impl<K: Hash + Eq + Drop, V: Drop> Inserts<K, V> for OrderedMapBuilder<K, V> {
+    ghost holds = { λ done entries. entries ≡ inserted_in_order K.eq done };
 
-    fn empty(alloc: Global, count: usize) -> Vec<(K, V)> {
-        match Vec::with_capacity(alloc, count) {
-            Ok(entries) => entries,
-            Err(_) => Vec::new(alloc),
-        }
+    fn empty(alloc: Global, count: usize) -> OrderedMapBuilder<K, V> {
+        OrderedMapBuilder::with_index(alloc, count)
     }
 
     fn put(&mut self, key: K, value: V) -> bool {
-        self.push((key, value)).is_ok()
+        OrderedMapBuilder::insert(self, key, value).is_ok()
     }
 }
 
@@ -200,12 +174,16 @@ impl<K: Deserialize + Hash + Eq, V: Deserialize> Deserialize for OrderedMap<K, V
     ) -> Result<OrderedMap<K, V>, D::Error> {
         match deserializer.open() {
             Content::Map(mut entries) => {
-                match read_pairs::<K, V, Vec<(K, V)>, D>(alloc, &mut entries) {
-                    Ok(pairs) => match once_each(alloc, pairs) {
+                if D::has_many_short_keys(&entries) {
+                    match read_pairs::<K, V, OrderedMapBuilder<K, V>, D>(alloc, &mut entries) {
+                        Ok(builder) => Ok(builder.into_map()),
+                        Err(error) => Err(error),
+                    }
+                } else {
+                    match read_pairs::<K, V, OrderedMap<K, V>, D>(alloc, &mut entries) {
                         Ok(map) => Ok(map),
-                        Err(_) => Err(D::Error::out_of_memory()),
-                    },
-                    Err(error) => Err(error),
+                        Err(error) => Err(error),
+                    }
                 }
             }
             _ => Err(D::Error::invalid_type(ValueKind::Map)),
@@ -222,7 +200,7 @@ impl<K: Deserialize + Hash + Eq, V: Deserialize> Deserialize for OrderedMap<K, V
         *input = rest;
         let inside = below(depth)?;
         let entries = read_entries::<K, V>(alloc, count, body, inside)?;
-        if K::have_distinct_trees(alloc, &entries) {
+        if keys_and_trees_differ(alloc, &entries) {
             Ok(OrderedMap::from_distinct(entries))
         } else {
             Err(GaveUp)

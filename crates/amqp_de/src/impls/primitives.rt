@@ -8,7 +8,7 @@ use crate::deserialize::Deserialize;
 use crate::deserialize_error::DeserializeError;
 use crate::deserializer::Deserializer;
 use crate::fixed_content::FixedContent;
-use crate::impls::encoded_maps::keys_differ;
+use crate::impls::encoded_maps::ordered_keys_differ;
 use amqp_decode::prefix::{GaveUp, read_bool, read_char, read_null};
 use amqp_value::ValueKind;
 use std::alloc::Global;
@@ -73,7 +73,7 @@ impl Deserialize for bool {
     }
 
     fn have_distinct_trees<V>(alloc: Global, entries: &[(bool, V)]) -> bool {
-        keys_differ(alloc, entries)
+        ordered_keys_differ(alloc, entries)
     }
 }
 
@@ -107,6 +107,6 @@ impl Deserialize for char {
     }
 
     fn have_distinct_trees<V>(alloc: Global, entries: &[(char, V)]) -> bool {
-        keys_differ(alloc, entries)
+        ordered_keys_differ(alloc, entries)
     }
 }

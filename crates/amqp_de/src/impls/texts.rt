@@ -10,7 +10,7 @@ use crate::content::Content;
 use crate::deserialize::Deserialize;
 use crate::deserialize_error::DeserializeError;
 use crate::deserializer::Deserializer;
-use crate::impls::encoded_maps::keys_differ;
+use crate::impls::encoded_maps::ordered_keys_differ;
 use amqp_data::{ByteBuf, Symbol};
 use amqp_decode::prefix::{GaveUp, read_binary, read_string, read_symbol};
 use amqp_value::ValueKind;
@@ -45,7 +45,7 @@ impl Deserialize for ByteBuf {
     }
 
     fn have_distinct_trees<V>(alloc: Global, entries: &[(ByteBuf, V)]) -> bool {
-        keys_differ(alloc, entries)
+        ordered_keys_differ(alloc, entries)
     }
 }
 
@@ -79,7 +79,7 @@ impl Deserialize for String {
     }
 
     fn have_distinct_trees<V>(alloc: Global, entries: &[(String, V)]) -> bool {
-        keys_differ(alloc, entries)
+        ordered_keys_differ(alloc, entries)
     }
 }
 
@@ -112,6 +112,6 @@ impl Deserialize for Symbol {
     }
 
     fn have_distinct_trees<V>(alloc: Global, entries: &[(Symbol, V)]) -> bool {
-        keys_differ(alloc, entries)
+        ordered_keys_differ(alloc, entries)
     }
 }

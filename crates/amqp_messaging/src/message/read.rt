@@ -11,22 +11,21 @@ use crate::message::kind::SectionKind;
 use crate::message::parts::take_part;
 use serde_amqp::derive::Deserialize;
 use serde_amqp::extensions::TransparentVec;
-use serde_amqp::{Error, Limits, from_slice_within};
+use serde_amqp::{Error, from_slice};
 use std::alloc::Global;
 
 /// Reads a part, if there is one.
 pub(crate) fn read_part<T: Deserialize>(
     alloc: Global,
     part: &[u8],
-    limits: Option<Limits>,
 ) -> Result<Option<T>, MessageError>
-    ensures ok { IfOk result (ReadsPart limits T.reads part.now) }
+    ensures ok { IfOk result (ReadsPart T.reads part.now) }
     ensures refused { IfErr result IsValueError }
 {
     if part.is_empty() {
         return Ok(None);
     }
-    match from_slice_within::<T>(alloc, part, limits) {
+    match from_slice::<T>(alloc, part) {
         Ok(read) => Ok(Some(read)),
         Err(error) => Err(MessageError::Value(error)),
     }
@@ -37,22 +36,21 @@ pub(crate) fn read_body(
     alloc: Global,
     kind: SectionKind,
     bytes: &[u8],
-    limits: Option<Limits>,
 ) -> Result<Body, MessageError>
-    ensures ok { IfOk result (ReadsBody limits ⟦<Data as Deserialize>⟧.reads
+    ensures ok { IfOk result (ReadsBody ⟦<Data as Deserialize>⟧.reads
         ⟦<AmqpSequence as Deserialize>⟧.reads ⟦<AmqpValue as Deserialize>⟧.reads bytes.now) }
     ensures refused { IfErr result IsValueError }
 {
     match kind {
-        SectionKind::AmqpValue => match from_slice_within::<AmqpValue>(alloc, bytes, limits) {
+        SectionKind::AmqpValue => match from_slice::<AmqpValue>(alloc, bytes) {
             Ok(read) => Ok(Body::Value(read)),
             Err(error) => Err(MessageError::Value(error)),
         },
-        SectionKind::AmqpSequence => match read_all::<AmqpSequence>(alloc, kind, bytes, limits) {
+        SectionKind::AmqpSequence => match read_all::<AmqpSequence>(alloc, kind, bytes) {
             Ok(read) => Ok(Body::Sequence(read)),
             Err(error) => Err(MessageError::Value(error)),
         },
-        _ => match read_all::<Data>(alloc, kind, bytes, limits) {
+        _ => match read_all::<Data>(alloc, kind, bytes) {
             Ok(read) => Ok(Body::Data(read)),
             Err(error) => Err(MessageError::Value(error)),
         },
@@ -65,9 +63,8 @@ fn read_all<T: Deserialize>(
     alloc: Global,
     kind: SectionKind,
     bytes: &[u8],
-    limits: Option<Limits>,
 ) -> Result<TransparentVec<T>, Error>
-    ensures { IfOk result (λ v. ReadsAll limits T.reads bytes.now (transparent_items v)) }
+    ensures { IfOk result (λ v. ReadsAll T.reads bytes.now (transparent_items v)) }
 {
     let mut sections = Vec::new(alloc);
     let mut rest = bytes;
@@ -76,7 +73,7 @@ fn read_all<T: Deserialize>(
         if section.is_empty() {
             return Err(Error::InvalidValue);
         }
-        let read = from_slice_within::<T>(alloc, section, limits)?;
+        let read = from_slice::<T>(alloc, section)?;
         sections.push(read)?;
         rest = after;
     }

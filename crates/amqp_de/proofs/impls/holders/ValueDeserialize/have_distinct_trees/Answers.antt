@@ -1,5 +1,5 @@
 use Rattle.amqp_de.proofs.MapReadings.{values_apart}
 use Rattle.amqp_de.proofs.impls.holders.ValueDeserialize.have_distinct_trees.Goals as goal
 
-pub returns-clause-trees : goal.returns-clause-trees
-returns-clause-trees g c = values_apart c.keys_differ.result _ c.keys_differ.ensures
+pub returns : goal.returns
+returns g c = values_apart c.keys_differ.result _ c.keys_differ.ensures

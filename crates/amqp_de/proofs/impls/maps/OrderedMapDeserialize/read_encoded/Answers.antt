@@ -10,15 +10,15 @@ use Rattle.amqp_de.proofs.Inserted.{restored_in_order}
 use Rattle.amqp_de.proofs.MapReadings.{map_prefix, on_true, distinct_unchanged}
 use Rattle.amqp_de.proofs.impls.maps.OrderedMapDeserialize.read_encoded.Goals as goal
 
-pub returns-then-have_distinct_trees : goal.returns-then-have_distinct_trees
-returns-then-have_distinct_trees g c =
+pub returns-then-keys_and_trees_differ : goal.returns-then-keys_and_trees_differ
+returns-then-keys_and_trees_differ g c =
     let key = g.K.Deserialize in
     let value = g.V.Deserialize in
     let entries = c.in_ok-entries.entries.items in
     let whole : c.deref.result.now ≡ c.in_ok-entries.entries.items = search rules in
-    let sure : c.have_distinct_trees.result ≡ true = search rules in
-    let apart = subst (λ es. (ts : List Tree) → AllZip key.reads ts (keys_of es) → AreApart ts) whole (on_true _ _ sure c.have_distinct_trees.ensures.trees) in
-    let differ = subst (λ es. pairs.AreDistinct g.K.PartialEq.eq (keys_of es)) whole (on_true _ _ sure c.have_distinct_trees.ensures.keys) in
+    let sure : c.keys_and_trees_differ.result ≡ true = search rules in
+    let apart = subst (λ es. (ts : List Tree) → AllZip key.reads ts (keys_of es) → AreApart ts) whole (on_true _ _ sure c.keys_and_trees_differ.ensures.trees) in
+    let differ = subst (λ es. pairs.AreDistinct g.K.PartialEq.eq (keys_of es)) whole (on_true _ _ sure c.keys_and_trees_differ.ensures.keys) in
     let holds : HoldsInOrder g.K.PartialEq.eq entries c.from_distinct.result =
     c.from_distinct.ensures ∙ sym (distinct_unchanged g.K.PartialEq.eq g.met.K.Eq.laws.symm entries differ) in
     map_prefix key.reads key.image key.restorable key.same value.reads value.image value.restorable value.same

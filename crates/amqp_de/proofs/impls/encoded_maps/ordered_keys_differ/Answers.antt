@@ -1,6 +1,6 @@
 use Rattle.std.proofs.Common.{◌≡◌, true, rules}
 use Rattle.amqp_de.proofs.MapReadings.{on_true, climbs_distinct}
-use Rattle.amqp_de.proofs.impls.encoded_maps.keys_differ.Goals as goal
+use Rattle.amqp_de.proofs.impls.encoded_maps.ordered_keys_differ.Goals as goal
 
 pub returns-then-keys_ascend : goal.returns-then-keys_ascend
 returns-then-keys_ascend g c =
