@@ -173,7 +173,8 @@ pub trait Serializer {
         ensures { (t : Option Tree) (r : Result Self.Ok Self.Error) (after : Self) →
             permits self.new t r after → permits self.old (with_marker marker t) r after };
 
-    /// Opens a compound without parts.
+    /// Opens a compound without parts. A single compound need not be ended: the answer of its one
+    /// part, after `begin_part`, is that of the compound.
     ///
     /// # Example
     /// `CompoundKind::List`, ended without elements, is `45`.
