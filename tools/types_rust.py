@@ -76,7 +76,7 @@ def variant(f):
 
 
 def enum(table, t):
-    flags = ", map_key" if t.key else ", others" if t.others else ""
+    flags = ", map_key, write_only" if t.key else ", others" if t.others else ""
     flags += pass_(t) if t.kind == "described" else ""
     rows = ""
     for f in t.fields:

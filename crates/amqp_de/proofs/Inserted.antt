@@ -9,12 +9,13 @@ use Rattle.std.specs.Map.{keys_of, update_all}
 use Rattle.std.specs.declared.cmp.Ordering.{Ordering}
 use Rattle.std.specs.declared.cmp.Ordering.TheVariants.{Greater}
 use Rattle.amqp_data.specs.Pairs.{insert_pair}
+use Rattle.amqp_data.specs.declared.ordered_map.OrderedMap.{OrderedMap}
 use Rattle.amqp_value.specs.Converts.{inserted_in_order, inserted_sorted}
 use Rattle.amqp_ser.specs.Tree as tree
 use Rattle.amqp_ser.specs.Tree.{Tree}
 use Rattle.amqp_value.specs.TreeOf.{pairs_of}
 use Rattle.amqp_de.specs.Answers.{Refuses}
-use Rattle.amqp_de.specs.Maps.{OnMap, ReadsPair, ReadsPairs, SamePair, EachBefore, ForAllSame, AreDistinct, Ascend}
+use Rattle.amqp_de.specs.Maps.{HoldsInOrder, OnMap, ReadsPair, ReadsPairs, SamePair, EachBefore, ForAllSame, AreDistinct, Ascend}
 use Rattle.amqp_de.proofs.Lists.{entries_in_pairs}
 
 all_more : {X : Type 0} (P : X → Type 0) (xs : List X) (x : X) → AllByRecursion P xs → P x → AllByRecursion P (xs ++ x ∷ [])
@@ -129,3 +130,11 @@ map_refused R Q Holds Memory e ds t is r =
       | inl memory ↦ inl memory
       | inr none ↦ inr (λ m h. let (ps, zip, holds) = map_read (λ ts. ReadsPairs R Q Holds ts m) ds t is h in none ps zip)
     ]
+
+-- A map that is made of the pairs read, inserted in order, is read from the map.
+pub map_made : {K V : Type 0} (R : Tree → K → Type 0) (Q : Tree → V → Type 0) (eq : K → K → Bool) (ds : List (Tree × Tree)) (t : Tree) (vs : List (K × V)) (m : OrderedMap K V)
+    → tree.map (pairs_of ds) ≡ t → (ps : List (K × V)) × AllZip (ReadsPair R Q) ds ps × (vs ≡ ps) → HoldsInOrder eq vs m → OnMap (λ ts. ReadsPairs R Q (HoldsInOrder eq) ts m) t
+unfolding OnMap
+map_made {K} {V} R Q eq ds t vs m is (ps, zip, same) made =
+    subst (OnMap (λ ts. ReadsPairs R Q (HoldsInOrder eq) ts m)) is
+    (subst (λ ts. ReadsPairs R Q (HoldsInOrder eq) ts m) (sym (entries_in_pairs ds)) (ps, zip, made ∙ ap (λ (es : List (K × V)). inserted_in_order eq es) same))

@@ -1,5 +1,5 @@
 -- What is read from a map, from what is read from its keys and values.
-use Rattle.std.proofs.Common.{◌≡◌, ℕ, suc, ◌+◌, ◌-◌, ◌<◌, ◌≤◌, Bool, true, false, true≢false, if◌then◌else◌, List, [], ◌∷◌, ◌++◌, length, position, map, Some, None, refl, sym, ap, ◌∙◌, subst, arith}
+use Rattle.std.proofs.Common.{◌≡◌, ℕ, suc, ◌+◌, ◌-◌, ◌<◌, ◌≤◌, Bool, true, false, true≢false, if◌then◌else◌, List, [], ◌∷◌, ◌++◌, length, position, map, Some, None, refl, sym, ap, ◌∙◌, subst, fold, arith}
 use Rattle.std.specs.Bool.{OnTrue}
 use Rattle.std.specs.List.{AllZip, AllByRecursion}
 use Rattle.std.specs.Cmp.{IsTotalOrder}
@@ -7,7 +7,7 @@ use Rattle.std.specs.Map.{keys_of}
 use Rattle.std.specs.Ordering.{is_eq}
 use Rattle.std.specs.declared.cmp.Ordering.{Ordering}
 use Rattle.std.specs.declared.cmp.Ordering.TheVariants.{Less}
-use Rattle.amqp_data.specs.Pairs.{insert_pair, LacksKey, AreDistinct}
+use Rattle.amqp_data.specs.Pairs.{insert_pair, insert_pairs, LacksKey, AreDistinct}
 use Rattle.amqp_data.proofs.Searches.{AllFail, fail_by_position}
 use Rattle.amqp_ser.specs.Same.{same_tree}
 use Rattle.amqp_ser.specs.Tree as tree
@@ -93,11 +93,15 @@ module _ {K : Type 0} (R : Tree → K → Type 0) (eq : K → K → Bool) (told 
   apart_after t x (u ∷ us) [] r zip lacks = absurd zip
   apart_after t x (u ∷ us) (y ∷ ys) r zip lacks = (two_apart (same_tree u t) t u x y refl r zip.0 lacks.0, apart_after t x us ys r zip.1 lacks.1)
 
-  pub apart_trees : (xs : List K) → AreDistinct eq xs → (ts : List Tree) → AllZip R ts xs → AreApart ts
+  apart_trees : (xs : List K) → AreDistinct eq xs → (ts : List Tree) → AllZip R ts xs → AreApart ts
   apart_trees [] distinct [] zip = tt
   apart_trees [] distinct (t ∷ ts) zip = absurd zip
   apart_trees (x ∷ xs) distinct [] zip = absurd zip
   apart_trees (x ∷ xs) distinct (t ∷ ts) zip = (apart_after t x ts xs zip.0 zip.1 distinct.0, apart_trees xs distinct.1 ts zip.1)
+
+  pub trees_apart : (b : Bool) (xs : List K) → OnTrue b (AreDistinct eq xs) → OnTrue b ((ts : List Tree) → AllZip R ts xs → AreApart ts)
+  trees_apart false xs distinct = tt
+  trees_apart true xs distinct = apart_trees xs distinct
 
 -- Entries whose keys are apart are inserted unchanged.
 apart_entry : (t : Tree × Tree) (us : List (Tree × Tree)) → AllByRecursion (λ u. same_tree u t.0 ≡ false) (keys_of us) → AllByRecursion (λ (u : Tree × Tree). same_tree u.0 t.0 ≡ false) us
@@ -175,6 +179,17 @@ module _ {K V : Type 0} (eq : K → K → Bool) (flips : (k l : K) → eq k l �
   pub distinct_unchanged : (es : List (K × V)) → AreDistinct eq (keys_of es) → inserted_in_order eq es ≡ es
   distinct_unchanged es distinct = distinct_inserted eq es (each_differs es distinct)
 
+  -- Entries whose repeated keys are merged are those that are inserted in order.
+  inserted_pairs : (es done : List (K × V)) → insert_pairs eq es done ≡ fold (λ (ds : List (K × V)) (e : K × V). insert_pair eq ds e.0 e.1) done es
+  inserted_pairs [] done = refl
+  inserted_pairs (e ∷ es) done = inserted_pairs es (insert_pair eq done e.0 e.1)
+
+  pub merged_inserted : (new old : List (K × V)) → insert_pairs eq new [] ≡ insert_pairs eq old [] → inserted_in_order eq new ≡ inserted_in_order eq old
+  merged_inserted new old same = sym (inserted_pairs new []) ∙ same ∙ inserted_pairs old []
+
+  pub merged_unchanged : (new old : List (K × V)) → insert_pairs eq new [] ≡ insert_pairs eq old [] → AreDistinct eq (keys_of new) → new ≡ inserted_in_order eq old
+  merged_unchanged new old same distinct = sym (distinct_unchanged new distinct) ∙ merged_inserted new old same
+
 -- A type that is read from scalars of one kind, and a test that holds for keys of the same content.
 module _ {T A : Type 0} (kind : A → Scalar) (told : (a b : A) → kind a ≡ kind b → a ≡ b) (content : T → A) (eq : T → T → Bool) (equal : (x y : T) → content x ≡ content y → eq x y ≡ true) where
   leaf_told : (t : Tree) (x y : T) → t ≡ scalar (kind (content x)) → t ≡ scalar (kind (content y)) → eq x y ≡ true
@@ -184,8 +199,7 @@ module _ {T A : Type 0} (kind : A → Scalar) (told : (a b : A) → kind a ≡ k
 
   pub leaves_apart : (b : Bool) (xs : List T) → OnTrue b (AreDistinct eq xs)
       → OnTrue b ((ts : List Tree) → AllZip (λ t x. t ≡ scalar (kind (content x))) ts xs → AreApart ts)
-  leaves_apart false xs distinct = tt
-  leaves_apart true xs distinct = apart_trees (λ t x. t ≡ scalar (kind (content x))) eq leaf_told xs distinct
+  leaves_apart = trees_apart (λ t x. t ≡ scalar (kind (content x))) eq leaf_told
 
 pub on_true : (b : Bool) (P : Type 0) → b ≡ true → OnTrue b P → P
 on_true true P is p = p
@@ -213,5 +227,5 @@ value_told : (t : Tree) (x y : Value) → tree_of x ≡ t → tree_of y ≡ t �
 value_told t x y r s = equal-is_same x y ∙ rw (r ∙ sym s) (same-itself (tree_of y))
 
 pub values_apart : (b : Bool) (xs : List Value) → OnTrue b (AreDistinct equal xs) → OnTrue b ((ts : List Tree) → AllZip (λ t x. tree_of x ≡ t) ts xs → AreApart ts)
-values_apart false xs distinct = tt
-values_apart true xs distinct = apart_trees (λ t x. tree_of x ≡ t) equal value_told xs distinct
+values_apart = trees_apart (λ t x. tree_of x ≡ t) equal value_told
+

@@ -66,8 +66,7 @@ use std::alloc::Global;
 /// `value`. `next_element` and `next_pair` remove the first of `items` and `pairs`; `take_named`
 /// removes the first entry with the given name.
 ///
-/// Provided methods: `into_fixed`, `into_text`, `into_list`, `has_many_short_keys`, `entries_left`
-/// and `elements_left`.
+/// Provided methods: `into_fixed`, `into_text`, `into_list`, `entries_left` and `elements_left`.
 /// The first three open the value and return the content of one kind. A deserializer that knows the
 /// kind without opening implements them to be faster.
 pub trait Deserializer: Sized + Drop {
@@ -218,18 +217,7 @@ pub trait Deserializer: Sized + Drop {
         }
     }
 
-    /// Returns whether many keys are left, all of them certainly short, so that an index of their
-    /// hashes costs less than comparing each key with each one before it.
-    ///
-    /// # Example
-    /// True for an untyped map from 24 ubytes, and false for one from 23. A deserializer that does not
-    /// know the keys returns false.
-    #[inline(always)]
-    fn has_many_short_keys(_entries: &Self::Entries) -> bool {
-        false
-    }
-
-    /// Returns a number of pairs that are certainly left, for whose keys an index can be made.
+    /// Returns a number of pairs that are certainly left, for which room can be reserved.
     ///
     /// # Example
     /// For an untyped map of three entries, returns 3 before the first is taken. A deserializer that

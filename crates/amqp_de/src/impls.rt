@@ -14,3 +14,5 @@ mod numbers;
 mod primitives;
 mod texts;
 mod tuples;
+
+pub use encoded_maps::keys_differ;

@@ -47,6 +47,7 @@ pub use encoded::{
 };
 pub use enums::{DataVariant, Either, EnumSeed, Never, UnitVariant, Variants};
 pub use fields::{FieldSeeds, FieldValues, Optional, Required};
+pub use impls::keys_differ;
 pub use maps_encoded::{
     build_composite_map_encoded, build_fields_map_encoded, read_composite_map_encoded,
     read_fields_map_encoded,

@@ -1,12 +1,15 @@
 -- What is returned for bytes within limits, from what is returned for the tree that they encode.
-use Rattle.std.proofs.Common.{◌≡◌, inl, inr, ℕ, List, Option, subst}
+use Rattle.std.proofs.Common.{◌≡◌, ◌≤◌, inl, inr, ℕ, List, Option, length, sym, subst, arith}
 use Rattle.std.specs.Io.KnownBytes.{Consumes}
 use Rattle.amqp_data.specs.declared.error.Error.{Error}
 use Rattle.amqp_frame.specs.Frame.{IsFrame}
 use Rattle.amqp_ser.specs.Tree.{Tree}
 use Rattle.amqp_decode.proofs.Whole.{one-tree}
+use Rattle.amqp_decode.specs.Spells.{Spells}
+use Rattle.amqp_decode.specs.WithoutBytes.{elements_without_bytes}
 use Rattle.amqp_de.specs.Answers.{Refuses}
 use Rattle.amqp_from_slice.specs.Limited.{IsAllowed, ReadsAllowed, RefusesNextAllowed, levels}
+use Rattle.amqp_from_slice.specs.ReadsSpelled.{ReadsSpelled}
 use Rattle.amqp_from_slice.specs.declared.limited.Limits.{Limits}
 use Rattle.amqp_from_slice.proofs.SpelledLemmas.{IsMemory}
 
@@ -25,3 +28,11 @@ pub refused_next_allowed : {T : Type 0} (R : Tree → T → Type 0) (l : Limits)
     → IsFrame bs → Consumes old new bs → cs ≡ bs → Refuses IsMemory (ReadsAllowed R l cs) e → RefusesNextAllowed R l old new before after e
 refused_next_allowed R l old new before after bs cs e frame taken same refused =
     inr (bs, frame, taken, subst (λ b. Refuses IsMemory (ReadsAllowed R l b) e) same refused)
+
+-- bytes without such elements are within the limits if they are short enough
+pub plain-allowed : {T : Type 0} (R : Tree → T → Type 0) (l : Limits) (bs : List ℕ) (x : T) → length bs ≤ l.bytes → 256 ≤ l.depth → ((d : ℕ) → elements_without_bytes d bs ≡ 0)
+    → ReadsSpelled R bs x → ReadsAllowed R l bs x
+plain-allowed R l bs x short deep none (t, spelled, r) =
+    let same : levels l ≡ 256 = omega (arith, deep) in
+    let few : elements_without_bytes (levels l) bs ≤ l.elements = omega (arith, none (levels l)) in
+    (t, (short, few, subst (λ d. Spells d bs t) (sym same) spelled), r)

@@ -1,4 +1,5 @@
--- Contracts of public items rest on them.
+-- Contracts of public items rest on them, except on Arrays.
 pub mod ReadsSpelled
 pub mod Limited
 pub mod LocatedErrors
+pub mod Arrays

@@ -1,5 +1,5 @@
 -- Encoded values within limits, and what is read from them (AMQP 1.0 part 1, sections 1.2 and 1.6).
-use Rattle.std.specs.Prelude.{◌≡◌, ◌≤◌, ◌⊎◌, ℕ, min, List, Option, length}
+use Rattle.std.specs.Prelude.{◌≡◌, ◌≤◌, ◌⊎◌, ◌^◌, ◌-◌, ℕ, min, List, Option, None, Some, length}
 use Rattle.std.specs.Io.KnownBytes.{Consumes}
 use Rattle.amqp_data.specs.declared.error.Error.{Error}
 use Rattle.amqp_data.specs.declared.error.Error.TheVariants.{OutOfMemory}
@@ -14,6 +14,15 @@ use Rattle.amqp_from_slice.specs.declared.limited.Limits.{Limits}
 -- The levels that the limits permit, at most 256.
 abbrev pub levels : Limits → ℕ
 levels limits = min limits.depth 256
+
+-- The limits for bytes of this length: as many elements without bytes as there are bytes.
+abbrev pub for_length : ℕ → Limits
+for_length n = record { bytes = n; elements = min n (2 ^ 32 - 1); depth = 256 }
+
+-- These limits, or with none those for the length of the bytes.
+abbrev pub limits_for : Option Limits → List ℕ → Limits
+limits_for None bytes = for_length (length bytes)
+limits_for (Some limits) bytes = limits
 
 -- The bytes encode the tree, and are within the limits.
 abbrev pub IsAllowed : Limits → List ℕ → Tree → Type 0

@@ -10,12 +10,13 @@ pub mod laws;
 mod lazy;
 mod limited;
 mod located;
+mod plain;
 mod read;
 mod reader;
 mod round_trip;
 
 pub use lazy::ReadLazy;
-pub use limited::{Limits, from_slice_limited};
+pub use limited::{Limits, from_slice_limited, from_slice_with};
 pub use located::{SliceError, from_slice_located};
 pub use read::from_slice;
 pub use reader::{from_reader, from_reader_limited};

@@ -1,14 +1,20 @@
 //! Reading a type from the bytes of one encoded value, within limits.
 
-ghost use Rattle.std.specs.Prelude.{◌≡◌, IfOk, IfErr, MatchResult};
+ghost use Rattle.std.specs.Prelude.{◌≡◌, ◌≤◌, ℕ, length, IfOk, IfErr, IfSome, MatchResult};
+ghost use Rattle.std.specs.Bool.{OnTrue};
 ghost use Rattle.amqp_data.specs.declared.error.Error.TheVariants.{OutOfMemory, TooLong};
 ghost use Rattle.amqp_ser.specs.Tree.{Tree};
 ghost use Rattle.amqp_value.specs.TreeOf.{tree_of};
 ghost use Rattle.amqp_decode.specs.Spells.{Spells};
+ghost use Rattle.amqp_decode.specs.WithoutBytes.{elements_without_bytes};
 ghost use Rattle.amqp_de.specs.Answers.{Answers};
+ghost use Rattle.amqp_de.specs.Encoded.{Reading};
 ghost use Rattle.amqp_from_value.specs.Refusals.{IsOfReading};
-ghost use Rattle.amqp_from_slice.specs.Limited.{IsAllowed, ReadsAllowed, levels};
+ghost use Rattle.amqp_from_slice.specs.Limited.{IsAllowed, ReadsAllowed, for_length, levels};
+ghost use Rattle.amqp_from_slice.specs.Limited.{limits_for};
 
+use crate::plain::all_elements_have_bytes;
+use crate::read::read_at_once;
 use amqp_data::Error;
 use amqp_de::de::Deserialize;
 use amqp_decode::{decode_value_limited, decode_value_to_depth};
@@ -31,6 +37,53 @@ pub struct Limits {
     pub depth: u16,
 }
 
+impl Limits {
+    /// Returns limits for an encoded value of this length, by which it takes memory linear in its
+    /// length: as many elements without bytes as it has bytes, and 256 levels.
+    ///
+    /// # Example
+    /// For 13 bytes, 13 elements without bytes are allowed.
+    pub fn for_length(bytes: usize) -> Limits
+        ensures { result ≡ for_length bytes }
+    {
+        let elements = bytes.min(u32::MAX as usize) as u32;
+        Limits {
+            bytes,
+            elements,
+            depth: 256,
+        }
+    }
+}
+
+/// Reads a `T` from the bytes of exactly one encoded value, within these limits, or for `None`
+/// within `Limits::for_length` of the bytes.
+///
+/// # Errors
+/// Returns the errors of `from_slice_limited`.
+///
+/// # Memory
+/// Allocates from `alloc` as `from_slice_limited` does.
+///
+/// # Example
+/// `f000000005ffffffff40`, an array of 2³² - 1 nulls in 10 bytes, is `TooLong` for `None`.
+pub fn from_slice_with<T: Deserialize>(
+    alloc: Global,
+    bytes: &[u8],
+    limits: Option<Limits>,
+) -> Result<T, Error>
+    ensures { Answers (λ e. e ≡ OutOfMemory)
+        (ReadsAllowed T.reads (limits_for limits bytes.now) bytes.now) result }
+{
+    let limits = match limits {
+        Some(limits) => limits,
+        None => Limits::for_length(bytes.len()),
+    };
+    match from_slice_limited::<T>(alloc, bytes, limits) {
+        Ok(read) => Ok(read),
+        Err(error) => Err(error),
+    }
+}
+
 /// Reads a `T` from the bytes of exactly one encoded value, like `from_slice`, within limits.
 ///
 /// # Errors
@@ -38,8 +91,10 @@ pub struct Limits {
 /// bytes is read that would exceed it. Returns the errors of `from_slice` otherwise.
 ///
 /// # Memory
-/// Allocates from `alloc` as `from_slice` does. Bytes with more levels than the limit are decoded a
-/// second time, with 256 levels, to tell whether they are an encoded value.
+/// Allocates from `alloc` as `from_slice` does. Bytes in which an array of elements without bytes
+/// can begin, and any with a limit of fewer than 256 levels, are decoded to an untyped value. Bytes
+/// with more levels than the limit are decoded a second time, with 256 levels, to tell whether they
+/// are an encoded value.
 ///
 /// # Example
 /// `e0020340`, an array of three nulls, has a length of 4 bytes, 3 elements without bytes and 2
@@ -56,6 +111,9 @@ pub fn from_slice_limited<T: Deserialize>(
         MatchResult result (λ y. T.same y x) (λ e. e ≡ OutOfMemory) }
     ensures kind { IfErr result (λ e. (t : Tree) → Spells 256 bytes.now t → IsOfReading e) }
 {
+    if let Some(read) = read_plain::<T>(alloc, bytes, limits) {
+        return Ok(read);
+    }
     match decode_limited(alloc, bytes, limits) {
         Ok(value) => match from_value::<T>(alloc, value) {
             Ok(read) => Ok(read),
@@ -64,6 +122,34 @@ pub fn from_slice_limited<T: Deserialize>(
         Err(Error::OutOfMemory) => Err(Error::OutOfMemory),
         Err(Error::TooLong) => Err(Error::TooLong),
         Err(error) => Err(error),
+    }
+}
+
+// Reads a `T` without an untyped value from bytes in which no array of elements without bytes can
+// begin. Returns `None` for others, and if that fails.
+fn read_plain<T: Deserialize>(alloc: Global, bytes: &[u8], limits: Limits) -> Option<T>
+    ensures { IfSome result (λ x. ReadsAllowed
+        (Reading T.reads T.image T.restorable T.same) limits bytes.now x) }
+{
+    if !is_within(bytes, limits) {
+        return None;
+    }
+    match read_at_once::<T>(alloc, bytes) {
+        Some(read) => Some(read),
+        None => None,
+    }
+}
+
+// Returns true if it is certain that the bytes are within the limits, whatever value they encode.
+fn is_within(bytes: &[u8], limits: Limits) -> bool
+    ensures short { OnTrue result (length bytes.now ≤ limits.bytes) }
+    ensures deep { OnTrue result (256 ≤ limits.depth) }
+    ensures none { OnTrue result ((depth : ℕ) → elements_without_bytes depth bytes.now ≡ 0) }
+{
+    if bytes.len() <= limits.bytes && limits.depth >= 256 {
+        all_elements_have_bytes(bytes)
+    } else {
+        false
     }
 }
 

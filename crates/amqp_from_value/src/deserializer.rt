@@ -12,14 +12,10 @@ ghost use Rattle.amqp_de.specs.ContentTree.{content_tree};
 use crate::key_of_name::find;
 use amqp_data::{Error, OrderedMap};
 use amqp_de::de::{self, Content, Deserialize, FixedContent};
-use amqp_value::{Value, ValueKind, is_short_key};
+use amqp_value::{Value, ValueKind};
 use std::alloc::Global;
 use std::collections::VecDeque;
 use std::vec::IntoIter;
-
-// The number of entries from which on an index of their keys costs less than comparing each key with
-// each one before it.
-const MANY: usize = 24;
 
 /// A deserializer of a `Value`.
 #[derive(Drop)]
@@ -327,10 +323,6 @@ impl de::Deserializer for Deserializer {
             }),
             _ => None,
         }
-    }
-
-    fn has_many_short_keys(entries: &Entries) -> bool {
-        entries.pairs.len() >= MANY && entries.pairs.iter().all(|pair| is_short_key(&pair.0))
     }
 
     #[inline(always)]

@@ -196,10 +196,6 @@ impl<'a> de::Deserializer for Traced<'a> {
         <Deserializer as de::Deserializer>::into_fixed(self.inner)
     }
 
-    fn has_many_short_keys(entries: &TracedEntries<'a>) -> bool {
-        <Deserializer as de::Deserializer>::has_many_short_keys(&entries.entries)
-    }
-
     fn entries_left(entries: &TracedEntries<'a>) -> usize {
         <Deserializer as de::Deserializer>::entries_left(&entries.entries)
     }

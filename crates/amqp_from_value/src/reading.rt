@@ -99,10 +99,6 @@ impl de::Deserializer for Refusing {
         <Deserializer as de::Deserializer>::into_list(self.inner)
     }
 
-    fn has_many_short_keys(entries: &Entries) -> bool {
-        <Deserializer as de::Deserializer>::has_many_short_keys(entries)
-    }
-
     #[inline(always)]
     fn entries_left(entries: &Entries) -> usize {
         <Deserializer as de::Deserializer>::entries_left(entries)

@@ -4,8 +4,8 @@ use Rattle.std.proofs.Common.{subst, sym, ap, ◌∙◌, append_assoc}
 use Rattle.std.proofs.lemmas.List.{append-nil}
 use Rattle.amqp_ser.specs.SizeAndBytes.{AreBytesOf}
 use Rattle.amqp_ser.specs.Tree.{Tree}
-use Rattle.amqp_from_slice.specs.ReadsSpelled.{ReadsSpelled}
-use Rattle.amqp_messaging.specs.Messages.{PutsTree, ReadsAll}
+use Rattle.amqp_from_slice.specs.declared.limited.Limits.{Limits}
+use Rattle.amqp_messaging.specs.Messages.{PutsTree, ReadsAll, ReadsWithin}
 
 -- Bytes with those of a tree after them.
 pub put_tree : (o : Option Tree) (bs s all : List ℕ) →
@@ -14,14 +14,14 @@ put_tree None bs s all h e = h
 put_tree (Some t) bs s all h e = subst (λ b. all ≡ s ++ b) h.1 e
 
 -- Sections that are read, and one more.
-pub add_read : {T : Type 0} (R : Tree → T → Type 0) (all taken rest bytes after : List ℕ) (xs : List T) (x : T) → ReadsAll R taken xs
-    → all ≡ taken ++ rest → rest ≡ bytes ++ after → ReadsSpelled R bytes x
-    → (t : List ℕ) × ReadsAll R t (xs ++ x ∷ []) × (all ≡ t ++ after)
-add_read R all taken rest bytes after xs x h e f is =
+pub add_read : {T : Type 0} (limits : Option Limits) (R : Tree → T → Type 0) (all taken rest bytes after : List ℕ) (xs : List T) (x : T) → ReadsAll limits R taken xs
+    → all ≡ taken ++ rest → rest ≡ bytes ++ after → ReadsWithin limits R bytes x
+    → (t : List ℕ) × ReadsAll limits R t (xs ++ x ∷ []) × (all ≡ t ++ after)
+add_read limits R all taken rest bytes after xs x h e f is =
     (taken ++ bytes, ReadsAll.more taken bytes xs x h is, e ∙ ap (λ r. taken ++ r) f ∙ sym (append_assoc taken bytes after))
 
 -- All sections are read.
-pub all_read : {T : Type 0} (R : Tree → T → Type 0) (all taken rest : List ℕ) (xs : List T) → ReadsAll R taken xs → all ≡ taken ++ rest
-    → rest ≡ [] → ReadsAll R all xs
-all_read R all taken rest xs h e f =
-    subst (λ s. ReadsAll R s xs) (sym (e ∙ ap (λ r. taken ++ r) f ∙ append-nil taken)) h
+pub all_read : {T : Type 0} (limits : Option Limits) (R : Tree → T → Type 0) (all taken rest : List ℕ) (xs : List T) → ReadsAll limits R taken xs → all ≡ taken ++ rest
+    → rest ≡ [] → ReadsAll limits R all xs
+all_read limits R all taken rest xs h e f =
+    subst (λ s. ReadsAll limits R s xs) (sym (e ∙ ap (λ r. taken ++ r) f ∙ append-nil taken)) h

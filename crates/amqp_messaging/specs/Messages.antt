@@ -5,7 +5,8 @@ use Rattle.amqp_data.specs.declared.error.Error.{Error}
 use Rattle.amqp_ser.specs.Encoding.{encoding}
 use Rattle.amqp_ser.specs.SizeAndBytes.{AreBytesOf}
 use Rattle.amqp_ser.specs.Tree.{Tree}
-use Rattle.amqp_from_slice.specs.ReadsSpelled.{ReadsSpelled}
+use Rattle.amqp_from_slice.specs.Limited.{ReadsAllowed, limits_for}
+use Rattle.amqp_from_slice.specs.declared.limited.Limits.{Limits}
 use Rattle.amqp_messaging.specs.Parts.{RefusesParts}
 use Rattle.amqp_messaging.specs.declared.bodies.AmqpSequence.{AmqpSequence}
 use Rattle.amqp_messaging.specs.declared.bodies.AmqpValue.{AmqpValue}
@@ -15,22 +16,26 @@ use Rattle.amqp_messaging.specs.declared.message.content.Body.TheVariants as bod
 use Rattle.amqp_messaging.specs.declared.message.error.MessageError.{MessageError}
 use Rattle.amqp_messaging.specs.declared.message.error.MessageError.TheVariants as error
 
+-- The bytes are read as the section, within these limits, or without any within those for its length.
+abbrev pub ReadsWithin : {T : Type 0} → Option Limits → (Tree → T → Type 0) → List ℕ → T → Type 0
+ReadsWithin limits R s x = ReadsAllowed R (limits_for limits s) s x
+
 -- The part is read as the section, or both are absent.
-abbrev pub ReadsPart : {T : Type 0} → (Tree → T → Type 0) → List ℕ → Option T → Type 0
-ReadsPart R s None = s ≡ []
-ReadsPart R s (Some x) = ReadsSpelled R s x
+abbrev pub ReadsPart : {T : Type 0} → Option Limits → (Tree → T → Type 0) → List ℕ → Option T → Type 0
+ReadsPart limits R s None = s ≡ []
+ReadsPart limits R s (Some x) = ReadsWithin limits R s x
 
 -- The bytes are read as these sections, one after another.
-pub data ReadsAll {T : Type 0} (R : Tree → T → Type 0) : List ℕ → List T → Type 0 where
-  none : ReadsAll R [] []
-  more : (s bytes : List ℕ) (xs : List T) (x : T) → ReadsAll R s xs → ReadsSpelled R bytes x
-      → ReadsAll R (s ++ bytes) (xs ++ x ∷ [])
+pub data ReadsAll {T : Type 0} (limits : Option Limits) (R : Tree → T → Type 0) : List ℕ → List T → Type 0 where
+  none : ReadsAll limits R [] []
+  more : (s bytes : List ℕ) (xs : List T) (x : T) → ReadsAll limits R s xs → ReadsWithin limits R bytes x
+      → ReadsAll limits R (s ++ bytes) (xs ++ x ∷ [])
 
 -- The bytes are read as the body, by how each kind of section is read.
-abbrev pub ReadsBody : (Tree → Data → Type 0) → (Tree → AmqpSequence → Type 0) → (Tree → AmqpValue → Type 0) → List ℕ → Body → Type 0
-ReadsBody D S V s (body.Data v) = ReadsAll D s (transparent_items v)
-ReadsBody D S V s (body.Sequence v) = ReadsAll S s (transparent_items v)
-ReadsBody D S V s (body.Value x) = ReadsSpelled V s x
+abbrev pub ReadsBody : Option Limits → (Tree → Data → Type 0) → (Tree → AmqpSequence → Type 0) → (Tree → AmqpValue → Type 0) → List ℕ → Body → Type 0
+ReadsBody limits D S V s (body.Data v) = ReadsAll limits D s (transparent_items v)
+ReadsBody limits D S V s (body.Sequence v) = ReadsAll limits S s (transparent_items v)
+ReadsBody limits D S V s (body.Value x) = ReadsWithin limits V s x
 
 -- A section cannot be read, or an allocation failed.
 abbrev pub IsValueError : MessageError → Type 0

@@ -34,7 +34,7 @@ pub enum Address {
 ///
 /// # Encoding
 /// The value of the variant.
-// amqp: encoding = "scalar", map_key
+// amqp: encoding = "scalar", map_key, write_only
 #[derive(Debug, PartialEq, Eq, Hash, Drop)]
 pub enum AnnotationKey {
     /// A symbol.
@@ -187,52 +187,6 @@ impl Serialize for AnnotationKey {
             AnnotationKey::Ulong(value) => value.serialize(serializer),
         }
     }
-}
-
-impl Deserialize for AnnotationKey {
-    ghost use Rattle.std.specs.Prelude.{◌≡◌};
-    ghost use Rattle.serde_amqp.specs.Derive.{symbol_text, Scalar, scalar, ulong, symbol, Always};
-    ghost use Rattle.amqp_messaging.specs.declared.identifiers.AnnotationKey.TheVariants as variant;
-
-    ghost reads = { λ t x. t ≡ scalar (elim x as (λ _. Scalar) [ variant.Symbol v ↦ symbol (symbol_text v) | variant.Ulong v ↦ ulong v ]) };
-
-    ghost image = { λ x. scalar (elim x as (λ _. Scalar) [ variant.Symbol v ↦ symbol (symbol_text v) | variant.Ulong v ↦ ulong v ]) };
-
-    ghost restorable = { Always };
-
-    ghost same = { λ x y. scalar (elim x as (λ _. Scalar) [ variant.Symbol v ↦ symbol (symbol_text v) | variant.Ulong v ↦ ulong v ]) ≡ scalar (elim y as (λ _. Scalar) [ variant.Symbol v ↦ symbol (symbol_text v) | variant.Ulong v ↦ ulong v ]) };
-
-    fn deserialize<D: Deserializer>(
-        _alloc: Global,
-        deserializer: D,
-    ) -> Result<AnnotationKey, D::Error> {
-        match deserializer.open() {
-            Content::Symbol(value) => Ok(AnnotationKey::Symbol(value)),
-            Content::Ulong(value) => Ok(AnnotationKey::Ulong(value)),
-            _ => Err(D::Error::invalid_value()),
-        }
-    }
-
-    fn read_encoded(
-        alloc: Global,
-        code: u8,
-        input: &mut &[u8],
-        depth: u16,
-    ) -> Result<AnnotationKey, GaveUp> {
-        let start = *input;
-        if let Ok(value) = <Symbol as Deserialize>::read_encoded(alloc, code, input, depth) {
-            return Ok(AnnotationKey::Symbol(value));
-        }
-        *input = start;
-        if let Ok(value) = <u64 as Deserialize>::read_encoded(alloc, code, input, depth) {
-            return Ok(AnnotationKey::Ulong(value));
-        }
-        Err(GaveUp)
-    }
-}
-
-impl RoundTrip for AnnotationKey {
-    fn law() {}
 }
 
 impl MapKey for AnnotationKey {

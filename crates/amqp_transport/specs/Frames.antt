@@ -4,7 +4,8 @@ use Rattle.std.specs.Prelude.{◌≡◌, ◌≤◌, ◌<◌, ◌*◌, ◌+◌, �
 use Rattle.std.specs.Int.{w16, w32, to_be_bytes}
 use Rattle.amqp_data.specs.declared.error.Error.TheVariants.{OutOfMemory}
 use Rattle.amqp_frame.specs.Frame.{IsFrame, HasFrame}
-use Rattle.amqp_from_slice.specs.ReadsSpelled.{ReadsSpelled}
+use Rattle.amqp_from_slice.specs.Limited.{ReadsAllowed, limits_for}
+use Rattle.amqp_from_slice.specs.declared.limited.Limits.{Limits}
 use Rattle.amqp_ser.specs.Encoding.{encoding}
 use Rattle.amqp_ser.specs.Tree.{Tree}
 use Rattle.amqp_transport.specs.declared.error.FrameError.{FrameError}
@@ -37,16 +38,19 @@ abbrev pub RefusesFrame : ℕ → List ℕ → FrameError → Type 0
 RefusesFrame limit s error.Incomplete = (length s < 8) ⊎ Begins (λ size _. length s < size) s
 RefusesFrame limit s e = Begins (λ size offset. RefusesHeader limit size offset e) s
 
--- The body is a performative, which is read as x, and the payload.
-abbrev pub ReadsBody : {T : Type 0} → (Tree → T → Type 0) → List ℕ → T → List ℕ → Type 0
-ReadsBody R body x payload = (bytes : List ℕ) × (body ≡ bytes ++ payload) × IsFrame bytes × ReadsSpelled R bytes x
+-- The body is a performative, which is read as x within these limits, or without any within those for
+-- its length, and the payload.
+abbrev pub ReadsBody : {T : Type 0} → Option Limits → (Tree → T → Type 0) → List ℕ → T → List ℕ → Type 0
+ReadsBody limits R body x payload =
+    (bytes : List ℕ) × (body ≡ bytes ++ payload) × IsFrame bytes × ReadsAllowed R (limits_for limits bytes) bytes x
 
 -- Why no performative is read from the body.
-abbrev pub RefusesBody : {T : Type 0} → (Tree → T → Type 0) → List ℕ → FrameError → Type 0
-RefusesBody R body error.NoPerformative = ¬ HasFrame body
-RefusesBody {T} R body (error.Value e) =
-    (e ≡ OutOfMemory) ⊎ ((bytes payload : List ℕ) × (body ≡ bytes ++ payload) × IsFrame bytes × ((x : T) → ¬ ReadsSpelled R bytes x))
-RefusesBody R body e = ⊥
+abbrev pub RefusesBody : {T : Type 0} → Option Limits → (Tree → T → Type 0) → List ℕ → FrameError → Type 0
+RefusesBody limits R body error.NoPerformative = ¬ HasFrame body
+RefusesBody {T} limits R body (error.Value e) =
+    (e ≡ OutOfMemory)
+    ⊎ ((bytes payload : List ℕ) × (body ≡ bytes ++ payload) × IsFrame bytes × ((x : T) → ¬ ReadsAllowed R (limits_for limits bytes) bytes x))
+RefusesBody limits R body e = ⊥
 
 -- The size of a frame without an extended header, with a performative and a payload of these lengths.
 abbrev pub frame_size : ℕ → ℕ → ℕ

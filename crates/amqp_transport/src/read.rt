@@ -1,14 +1,14 @@
 //! Frames at the start of bytes.
 
-ghost use Rattle.std.specs.Prelude.{◌≡◌, ◌≤◌, ◌++◌, IfOk, IfErr, IfSome, IfNone, length};
+ghost use Rattle.std.specs.Prelude.{◌≡◌, ◌≤◌, ◌++◌, None, IfOk, IfErr, IfSome, IfNone, length};
 ghost use Rattle.amqp_frame.specs.Frame.{IsFrame, HasFrame};
 ghost use Rattle.amqp_transport.specs.Frames.{header_bytes, HasLengths, ReadsBody, RefusesBody, RefusesFrame};
 
 use crate::error::FrameError;
 use crate::header::FrameHeader;
 use serde_amqp::de::Deserialize;
-use serde_amqp::from_slice;
 use serde_amqp::lazy::frame_len;
+use serde_amqp::{Limits, from_slice_with};
 use std::alloc::Global;
 
 /// A frame, whose parts borrow the bytes that it was read from.
@@ -84,7 +84,8 @@ impl<'a> Frame<'a> {
     ///
     /// # Errors
     /// Returns `NoPerformative` if the body does not begin with an encoded value, as in an empty
-    /// frame, and the errors of `from_slice`.
+    /// frame, and the errors of `from_slice_limited`. A performative with more array elements
+    /// without bytes than it has bytes is `TooLong`.
     ///
     /// # Memory
     /// Allocates the performative from `alloc`. The payload is not copied.
@@ -92,13 +93,32 @@ impl<'a> Frame<'a> {
     /// # Example
     /// With `Performative`, the body `0053174501` gives an end and the payload `01`.
     pub fn performative<T: Deserialize>(&self, alloc: Global) -> Result<(T, &'a [u8]), FrameError>
-        ensures ok { IfOk result (λ r. ReadsBody T.reads self.now.body.now r.0 r.1.now) }
-        ensures refused { IfErr result (RefusesBody T.reads self.now.body.now) }
+        ensures ok { IfOk result (λ r. ReadsBody None T.reads self.now.body.now r.0 r.1.now) }
+        ensures refused { IfErr result (RefusesBody None T.reads self.now.body.now) }
+    {
+        self.performative_with(alloc, None)
+    }
+
+    /// Reads the performative like `performative`, within these limits, or for `None` within
+    /// `Limits::for_length` of its bytes.
+    ///
+    /// # Errors
+    /// Returns the errors of `performative`, and `TooLong` for a performative that exceeds a limit.
+    ///
+    /// # Memory
+    /// Allocates the performative from `alloc`. The payload is not copied.
+    pub fn performative_with<T: Deserialize>(
+        &self,
+        alloc: Global,
+        limits: Option<Limits>,
+    ) -> Result<(T, &'a [u8]), FrameError>
+        ensures ok { IfOk result (λ r. ReadsBody limits T.reads self.now.body.now r.0 r.1.now) }
+        ensures refused { IfErr result (RefusesBody limits T.reads self.now.body.now) }
     {
         let Some((bytes, payload)) = self.split_body() else {
             return Err(FrameError::NoPerformative);
         };
-        match from_slice::<T>(alloc, bytes) {
+        match from_slice_with::<T>(alloc, bytes, limits) {
             Ok(performative) => Ok((performative, payload)),
             Err(error) => Err(FrameError::Value(error)),
         }

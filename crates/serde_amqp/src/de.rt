@@ -11,7 +11,7 @@ pub use amqp_de::{
     NamedRecord, NamedSeed, Never, Optional, Record, Required, TypeSeed, UnitVariant, Variants,
     build, build_composite, build_composite_encoded, build_composite_map,
     build_composite_map_encoded, build_encoded, build_fields_map, build_fields_map_encoded,
-    build_named, build_named_encoded, build_named_map, laws, read, read_alternatives,
+    build_named, build_named_encoded, build_named_map, keys_differ, laws, read, read_alternatives,
     read_alternatives_encoded, read_composite, read_composite_encoded, read_composite_map,
     read_composite_map_encoded, read_composite_type, read_composite_type_encoded, read_described,
     read_described_encoded, read_described_map, read_fields_map, read_fields_map_encoded, read_map,

@@ -41,7 +41,7 @@ pub use amqp_data::Error;
 pub use amqp_encode::{Encoder, append_to};
 pub use amqp_from_slice::{
     Limits, SliceError, from_reader, from_reader_limited, from_slice, from_slice_limited,
-    from_slice_located, round_trip_bytes,
+    from_slice_located, from_slice_with, round_trip_bytes,
 };
 pub use amqp_from_value::{ReadError, from_value, from_value_located};
 pub use amqp_size::serialized_size;

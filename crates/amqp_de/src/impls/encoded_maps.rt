@@ -93,11 +93,16 @@ pub(crate) fn keys_and_trees_differ<K: Deserialize + Hash + Eq, V>(
     }
 }
 
-/// Returns true if it is certain that no two keys are equal.
+/// Returns true if it is certain that no two keys are equal, for `have_distinct_trees` of a type of
+/// which no tree is read as two keys that are not equal. More than 8 keys are told apart by their
+/// hashes.
 ///
 /// # Memory
 /// For more than 8 entries, that of `finds_distinct_keys`.
-pub(crate) fn keys_differ<K: Hash + Eq, V>(alloc: Global, entries: &[(K, V)]) -> bool
+///
+/// # Example
+/// For the keys 2 and 1, returns true. For the keys 2 and 2, returns false.
+pub fn keys_differ<K: Hash + Eq, V>(alloc: Global, entries: &[(K, V)]) -> bool
     ensures { OnTrue result (AreDistinct K.eq (keys_of entries.now)) }
 {
     if entries.len() <= FEW {

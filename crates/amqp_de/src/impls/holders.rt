@@ -8,7 +8,7 @@ ghost use Rattle.amqp_de.specs.Reads.{ReadsOption, image_option, RestorableOptio
 use crate::deserialize::Deserialize;
 use crate::deserialize_error::DeserializeError;
 use crate::deserializer::Deserializer;
-use crate::impls::encoded_maps::keys_differ;
+use crate::impls::encoded_maps::ordered_keys_differ;
 use amqp_decode::prefix::{GaveUp, read_value_after_code};
 use amqp_value::Value;
 use std::alloc::Global;
@@ -104,6 +104,6 @@ impl Deserialize for Value {
     }
 
     fn have_distinct_trees<V>(alloc: Global, entries: &[(Value, V)]) -> bool {
-        keys_differ(alloc, entries)
+        ordered_keys_differ(alloc, entries)
     }
 }

@@ -16,8 +16,8 @@ use crate::content::Content;
 use crate::deserialize::Deserialize;
 use crate::deserialize_error::DeserializeError;
 use crate::deserializer::Deserializer;
-use crate::impls::encoded_maps::{keys_and_trees_differ, read_entries};
-use amqp_data::{OrderedMap, OrderedMapBuilder};
+use crate::impls::encoded_maps::{keys_and_trees_differ, keys_differ, read_entries};
+use amqp_data::{OrderedMap, merge_repeated_keys};
 use amqp_decode::prefix::{GaveUp, below, split_map};
 use amqp_value::ValueKind;
 use std::alloc::Global;
@@ -90,6 +90,29 @@ fn read_pairs<K: Deserialize, V: Deserialize, M: Inserts<K, V>, D: Deserializer>
     }
 }
 
+/// Makes a map of the entries, inserted in order. Equal keys are found by their hashes.
+///
+/// # Errors
+/// Returns an error if an allocation fails.
+fn once_each<K: Hash + Eq + Drop, V: Drop>(
+    alloc: Global,
+    entries: Vec<(K, V)>,
+) -> Result<OrderedMap<K, V>, GaveUp>
+    ensures { IfOk result (HoldsInOrder K.eq entries.items) }
+{
+    if keys_differ(alloc, &entries) {
+        return Ok(OrderedMap::from_distinct(entries));
+    }
+    let mut entries = entries;
+    if merge_repeated_keys(alloc, &mut entries)? {
+        return Ok(OrderedMap::from_distinct(entries));
+    }
+    match insert_all::<K, V, OrderedMap<K, V>>(alloc, entries) {
+        Ok(map) => Ok(map),
+        Err(error) => Err(error),
+    }
+}
+
 /// Inserts the entries in order into an empty map.
 ///
 /// # Errors
@@ -121,15 +144,18 @@ impl<K: Hash + Eq + Drop, V: Drop> Inserts<K, V> for OrderedMap<K, V> {
     }
 }
 
-impl<K: Hash + Eq + Drop, V: Drop> Inserts<K, V> for OrderedMapBuilder<K, V> {
-    ghost holds = { λ done entries. entries ≡ inserted_in_order K.eq done };
+impl<K: Drop, V: Drop> Inserts<K, V> for Vec<(K, V)> {
+    ghost holds = { λ done entries. entries.items ≡ done };
 
-    fn empty(alloc: Global, count: usize) -> OrderedMapBuilder<K, V> {
-        OrderedMapBuilder::with_index(alloc, count)
+    fn empty(alloc: Global, count: usize) -> Vec<(K, V)> {
+        match Vec::with_capacity(alloc, count) {
+            Ok(entries) => entries,
+            Err(_) => Vec::new(alloc),
+        }
     }
 
     fn put(&mut self, key: K, value: V) -> bool {
-        OrderedMapBuilder::insert(self, key, value).is_ok()
+        self.push((key, value)).is_ok()
     }
 }
 
@@ -174,16 +200,12 @@ impl<K: Deserialize + Hash + Eq, V: Deserialize> Deserialize for OrderedMap<K, V
     ) -> Result<OrderedMap<K, V>, D::Error> {
         match deserializer.open() {
             Content::Map(mut entries) => {
-                if D::has_many_short_keys(&entries) {
-                    match read_pairs::<K, V, OrderedMapBuilder<K, V>, D>(alloc, &mut entries) {
-                        Ok(builder) => Ok(builder.into_map()),
-                        Err(error) => Err(error),
-                    }
-                } else {
-                    match read_pairs::<K, V, OrderedMap<K, V>, D>(alloc, &mut entries) {
+                match read_pairs::<K, V, Vec<(K, V)>, D>(alloc, &mut entries) {
+                    Ok(pairs) => match once_each(alloc, pairs) {
                         Ok(map) => Ok(map),
-                        Err(error) => Err(error),
-                    }
+                        Err(_) => Err(D::Error::out_of_memory()),
+                    },
+                    Err(error) => Err(error),
                 }
             }
             _ => Err(D::Error::invalid_type(ValueKind::Map)),

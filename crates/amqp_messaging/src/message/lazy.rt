@@ -1,6 +1,6 @@
 //! Messages whose body is not decoded.
 
-ghost use Rattle.std.specs.Prelude.{◌≡◌, ◌⊎◌, ◌++◌, [], List, ℕ, IfOk, IfErr};
+ghost use Rattle.std.specs.Prelude.{◌≡◌, ◌⊎◌, ◌++◌, [], List, ℕ, None, IfOk, IfErr};
 ghost use Rattle.amqp_data.specs.declared.error.Error.{Error};
 ghost use Rattle.amqp_data.specs.declared.error.Error.TheVariants.{OutOfMemory};
 ghost use Rattle.amqp_messaging.specs.Messages.{PutsFront, ReadsPart, RefusesFront, RefusesMessage};
@@ -15,6 +15,7 @@ use crate::message::parts::{cut, reason};
 use crate::message::read::read_part;
 use crate::message::write::{put_bytes, put_front};
 use crate::properties::Properties;
+use serde_amqp::Limits;
 use serde_amqp::derive::{Deserialize, Serialize};
 use std::alloc::Global;
 
@@ -48,31 +49,65 @@ impl<'a> LazyMessage<'a> {
     ///
     /// # Errors
     /// Returns `Malformed`, `UnknownSection`, `OutOfOrder`, `Repeated`, `MixedBody` or `NoBody` if the
-    /// bytes are not the sections of a message, and the error of `from_slice` for the first section
-    /// that cannot be read.
+    /// bytes are not the sections of a message, and the error of `from_slice_limited` for the first
+    /// section that cannot be read. A section with more array elements without bytes than it has
+    /// bytes is `TooLong`.
     ///
     /// # Memory
     /// Allocates the header, the annotations and the properties from `alloc`. The body is not copied.
     pub fn from_slice(alloc: Global, bytes: &'a [u8]) -> Result<LazyMessage<'a>, MessageError>
         ensures around { IfOk result (λ m. (header delivery message : List ℕ)
             × IsAround header delivery message m.bare.now m.footer.now bytes.now
-            × ReadsPart ⟦<Header as Deserialize>⟧.reads header m.header
-            × ReadsPart ⟦<DeliveryAnnotations as Deserialize>⟧.reads delivery m.delivery_annotations
-            × ReadsPart ⟦<MessageAnnotations as Deserialize>⟧.reads message m.message_annotations) }
+            × ReadsPart None ⟦<Header as Deserialize>⟧.reads header m.header
+            × ReadsPart None ⟦<DeliveryAnnotations as Deserialize>⟧.reads delivery
+            m.delivery_annotations
+            × ReadsPart None ⟦<MessageAnnotations as Deserialize>⟧.reads message
+            m.message_annotations) }
         ensures bare { IfOk result (λ m. (kind : SectionKind) × (properties application : List ℕ)
             × IsBare kind properties application m.body.now m.bare.now
-            × ReadsPart ⟦<Properties as Deserialize>⟧.reads properties m.properties
-            × ReadsPart ⟦<ApplicationProperties as Deserialize>⟧.reads application m.application_properties) }
+            × ReadsPart None ⟦<Properties as Deserialize>⟧.reads properties m.properties
+            × ReadsPart None ⟦<ApplicationProperties as Deserialize>⟧.reads application
+            m.application_properties) }
+        ensures refused { IfErr result (RefusesMessage bytes.now) }
+    {
+        LazyMessage::from_slice_with(alloc, bytes, None)
+    }
+
+    /// Reads a message like `from_slice`, each section within these limits, or for `None` within
+    /// `Limits::for_length` of its bytes. The body and the footer are not decoded.
+    ///
+    /// # Errors
+    /// Returns the errors of `from_slice`, and `TooLong` for a section that exceeds a limit.
+    ///
+    /// # Memory
+    /// Allocates the header, the annotations and the properties from `alloc`. The body is not copied.
+    pub fn from_slice_with(
+        alloc: Global,
+        bytes: &'a [u8],
+        limits: Option<Limits>,
+    ) -> Result<LazyMessage<'a>, MessageError>
+        ensures around { IfOk result (λ m. (header delivery message : List ℕ)
+            × IsAround header delivery message m.bare.now m.footer.now bytes.now
+            × ReadsPart limits ⟦<Header as Deserialize>⟧.reads header m.header
+            × ReadsPart limits ⟦<DeliveryAnnotations as Deserialize>⟧.reads delivery
+            m.delivery_annotations
+            × ReadsPart limits ⟦<MessageAnnotations as Deserialize>⟧.reads message
+            m.message_annotations) }
+        ensures bare { IfOk result (λ m. (kind : SectionKind) × (properties application : List ℕ)
+            × IsBare kind properties application m.body.now m.bare.now
+            × ReadsPart limits ⟦<Properties as Deserialize>⟧.reads properties m.properties
+            × ReadsPart limits ⟦<ApplicationProperties as Deserialize>⟧.reads application
+            m.application_properties) }
         ensures refused { IfErr result (RefusesMessage bytes.now) }
     {
         let Some(parts) = cut(bytes) else {
             return Err(reason(bytes));
         };
-        let header = read_part(alloc, parts.header)?;
-        let delivery_annotations = read_part(alloc, parts.delivery_annotations)?;
-        let message_annotations = read_part(alloc, parts.message_annotations)?;
-        let properties = read_part(alloc, parts.bare.properties)?;
-        let application_properties = read_part(alloc, parts.bare.application_properties)?;
+        let header = read_part(alloc, parts.header, limits)?;
+        let delivery_annotations = read_part(alloc, parts.delivery_annotations, limits)?;
+        let message_annotations = read_part(alloc, parts.message_annotations, limits)?;
+        let properties = read_part(alloc, parts.bare.properties, limits)?;
+        let application_properties = read_part(alloc, parts.bare.application_properties, limits)?;
         Ok(LazyMessage {
             header,
             delivery_annotations,

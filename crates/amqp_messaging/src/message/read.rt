@@ -11,21 +11,22 @@ use crate::message::kind::SectionKind;
 use crate::message::parts::take_part;
 use serde_amqp::derive::Deserialize;
 use serde_amqp::extensions::TransparentVec;
-use serde_amqp::{Error, from_slice};
+use serde_amqp::{Error, Limits, from_slice_with};
 use std::alloc::Global;
 
 /// Reads a part, if there is one.
 pub(crate) fn read_part<T: Deserialize>(
     alloc: Global,
     part: &[u8],
+    limits: Option<Limits>,
 ) -> Result<Option<T>, MessageError>
-    ensures ok { IfOk result (ReadsPart T.reads part.now) }
+    ensures ok { IfOk result (ReadsPart limits T.reads part.now) }
     ensures refused { IfErr result IsValueError }
 {
     if part.is_empty() {
         return Ok(None);
     }
-    match from_slice::<T>(alloc, part) {
+    match from_slice_with::<T>(alloc, part, limits) {
         Ok(read) => Ok(Some(read)),
         Err(error) => Err(MessageError::Value(error)),
     }
@@ -36,21 +37,22 @@ pub(crate) fn read_body(
     alloc: Global,
     kind: SectionKind,
     bytes: &[u8],
+    limits: Option<Limits>,
 ) -> Result<Body, MessageError>
-    ensures ok { IfOk result (ReadsBody ⟦<Data as Deserialize>⟧.reads
+    ensures ok { IfOk result (ReadsBody limits ⟦<Data as Deserialize>⟧.reads
         ⟦<AmqpSequence as Deserialize>⟧.reads ⟦<AmqpValue as Deserialize>⟧.reads bytes.now) }
     ensures refused { IfErr result IsValueError }
 {
     match kind {
-        SectionKind::AmqpValue => match from_slice::<AmqpValue>(alloc, bytes) {
+        SectionKind::AmqpValue => match from_slice_with::<AmqpValue>(alloc, bytes, limits) {
             Ok(read) => Ok(Body::Value(read)),
             Err(error) => Err(MessageError::Value(error)),
         },
-        SectionKind::AmqpSequence => match read_all::<AmqpSequence>(alloc, kind, bytes) {
+        SectionKind::AmqpSequence => match read_all::<AmqpSequence>(alloc, kind, bytes, limits) {
             Ok(read) => Ok(Body::Sequence(read)),
             Err(error) => Err(MessageError::Value(error)),
         },
-        _ => match read_all::<Data>(alloc, kind, bytes) {
+        _ => match read_all::<Data>(alloc, kind, bytes, limits) {
             Ok(read) => Ok(Body::Data(read)),
             Err(error) => Err(MessageError::Value(error)),
         },
@@ -63,8 +65,9 @@ fn read_all<T: Deserialize>(
     alloc: Global,
     kind: SectionKind,
     bytes: &[u8],
+    limits: Option<Limits>,
 ) -> Result<TransparentVec<T>, Error>
-    ensures { IfOk result (λ v. ReadsAll T.reads bytes.now (transparent_items v)) }
+    ensures { IfOk result (λ v. ReadsAll limits T.reads bytes.now (transparent_items v)) }
 {
     let mut sections = Vec::new(alloc);
     let mut rest = bytes;
@@ -73,7 +76,7 @@ fn read_all<T: Deserialize>(
         if section.is_empty() {
             return Err(Error::InvalidValue);
         }
-        let read = from_slice::<T>(alloc, section)?;
+        let read = from_slice_with::<T>(alloc, section, limits)?;
         sections.push(read)?;
         rest = after;
     }

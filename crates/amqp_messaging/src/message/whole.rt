@@ -1,6 +1,6 @@
 //! Messages whose sections are all read.
 
-ghost use Rattle.std.specs.Prelude.{◌≡◌, ◌⊎◌, ◌++◌, [], List, ℕ, IfOk, IfErr};
+ghost use Rattle.std.specs.Prelude.{◌≡◌, ◌⊎◌, ◌++◌, [], List, ℕ, None, IfOk, IfErr};
 ghost use Rattle.amqp_data.specs.declared.error.Error.{Error};
 ghost use Rattle.amqp_messaging.specs.Messages.{PutsBare, PutsFront, PutsSection, ReadsBody, ReadsPart};
 ghost use Rattle.amqp_messaging.specs.Messages.{RefusesBare, RefusesFront, RefusesMessage, RefusesSection};
@@ -17,6 +17,7 @@ use crate::message::parts::{cut, reason};
 use crate::message::read::{read_body, read_part};
 use crate::message::write::{put, put_bare, put_front};
 use crate::properties::Properties;
+use serde_amqp::Limits;
 use serde_amqp::derive::{Deserialize, Serialize};
 use std::alloc::Global;
 
@@ -50,11 +51,12 @@ impl Message {
     ///
     /// # Errors
     /// Returns `Malformed`, `UnknownSection`, `OutOfOrder`, `Repeated`, `MixedBody` or `NoBody` if the
-    /// bytes are not the sections of a message, and the error of `from_slice` for the first section
-    /// that cannot be read.
+    /// bytes are not the sections of a message, and the error of `from_slice_limited` for the first
+    /// section that cannot be read. A section with more array elements without bytes than it has
+    /// bytes is `TooLong`.
     ///
     /// # Memory
-    /// Allocates the message from `alloc`, as `from_slice` does for each section.
+    /// Allocates the message from `alloc`, as `from_slice_limited` does for each section.
     ///
     /// # Example
     /// `0053704500537740` is a message with a header and the value null.
@@ -63,26 +65,62 @@ impl Message {
             × (header delivery message properties application body bare footer : List ℕ)
             × IsAround header delivery message bare footer bytes.now
             × IsBare kind properties application body bare
-            × ReadsPart ⟦<Header as Deserialize>⟧.reads header m.header
-            × ReadsPart ⟦<DeliveryAnnotations as Deserialize>⟧.reads delivery m.delivery_annotations
-            × ReadsPart ⟦<MessageAnnotations as Deserialize>⟧.reads message m.message_annotations
-            × ReadsPart ⟦<Properties as Deserialize>⟧.reads properties m.properties
-            × ReadsPart ⟦<ApplicationProperties as Deserialize>⟧.reads application m.application_properties
-            × ReadsBody ⟦<Data as Deserialize>⟧.reads ⟦<AmqpSequence as Deserialize>⟧.reads
+            × ReadsPart None ⟦<Header as Deserialize>⟧.reads header m.header
+            × ReadsPart None ⟦<DeliveryAnnotations as Deserialize>⟧.reads delivery
+            m.delivery_annotations
+            × ReadsPart None ⟦<MessageAnnotations as Deserialize>⟧.reads message
+            m.message_annotations
+            × ReadsPart None ⟦<Properties as Deserialize>⟧.reads properties m.properties
+            × ReadsPart None ⟦<ApplicationProperties as Deserialize>⟧.reads application
+            m.application_properties
+            × ReadsBody None ⟦<Data as Deserialize>⟧.reads ⟦<AmqpSequence as Deserialize>⟧.reads
             ⟦<AmqpValue as Deserialize>⟧.reads body m.body
-            × ReadsPart ⟦<Footer as Deserialize>⟧.reads footer m.footer) }
+            × ReadsPart None ⟦<Footer as Deserialize>⟧.reads footer m.footer) }
+        ensures refused { IfErr result (RefusesMessage bytes.now) }
+    {
+        Message::from_slice_with(alloc, bytes, None)
+    }
+
+    /// Reads a message like `from_slice`, each section within these limits, or for `None` within
+    /// `Limits::for_length` of its bytes.
+    ///
+    /// # Errors
+    /// Returns the errors of `from_slice`, and `TooLong` for a section that exceeds a limit.
+    ///
+    /// # Memory
+    /// Allocates the message from `alloc`, as `from_slice_limited` does for each section.
+    pub fn from_slice_with(
+        alloc: Global,
+        bytes: &[u8],
+        limits: Option<Limits>,
+    ) -> Result<Message, MessageError>
+        ensures read { IfOk result (λ m. (kind : SectionKind)
+            × (header delivery message properties application body bare footer : List ℕ)
+            × IsAround header delivery message bare footer bytes.now
+            × IsBare kind properties application body bare
+            × ReadsPart limits ⟦<Header as Deserialize>⟧.reads header m.header
+            × ReadsPart limits ⟦<DeliveryAnnotations as Deserialize>⟧.reads delivery
+            m.delivery_annotations
+            × ReadsPart limits ⟦<MessageAnnotations as Deserialize>⟧.reads message
+            m.message_annotations
+            × ReadsPart limits ⟦<Properties as Deserialize>⟧.reads properties m.properties
+            × ReadsPart limits ⟦<ApplicationProperties as Deserialize>⟧.reads application
+            m.application_properties
+            × ReadsBody limits ⟦<Data as Deserialize>⟧.reads ⟦<AmqpSequence as Deserialize>⟧.reads
+            ⟦<AmqpValue as Deserialize>⟧.reads body m.body
+            × ReadsPart limits ⟦<Footer as Deserialize>⟧.reads footer m.footer) }
         ensures refused { IfErr result (RefusesMessage bytes.now) }
     {
         let Some(parts) = cut(bytes) else {
             return Err(reason(bytes));
         };
-        let header = read_part(alloc, parts.header)?;
-        let delivery_annotations = read_part(alloc, parts.delivery_annotations)?;
-        let message_annotations = read_part(alloc, parts.message_annotations)?;
-        let properties = read_part(alloc, parts.bare.properties)?;
-        let application_properties = read_part(alloc, parts.bare.application_properties)?;
-        let body = read_body(alloc, parts.bare.kind, parts.bare.body)?;
-        let footer = read_part(alloc, parts.footer)?;
+        let header = read_part(alloc, parts.header, limits)?;
+        let delivery_annotations = read_part(alloc, parts.delivery_annotations, limits)?;
+        let message_annotations = read_part(alloc, parts.message_annotations, limits)?;
+        let properties = read_part(alloc, parts.bare.properties, limits)?;
+        let application_properties = read_part(alloc, parts.bare.application_properties, limits)?;
+        let body = read_body(alloc, parts.bare.kind, parts.bare.body, limits)?;
+        let footer = read_part(alloc, parts.footer, limits)?;
         Ok(Message {
             header,
             delivery_annotations,

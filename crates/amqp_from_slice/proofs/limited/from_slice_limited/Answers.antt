@@ -5,6 +5,16 @@ use Rattle.amqp_from_slice.specs.Limited.{IsAllowed, levels}
 use Rattle.amqp_from_slice.proofs.LimitedLemmas.{allowed-tree, unread-allowed}
 use Rattle.amqp_from_slice.proofs.limited.from_slice_limited.Goals as goal
 
+pub returns-in-Some-clause-read : goal.returns-in-Some-clause-read
+returns-in-Some-clause-read g c =
+    let (t, allowed, read) = c.in-Some.ensures in
+    (t, allowed, read.0)
+
+pub returns-in-Some-clause-law : goal.returns-in-Some-clause-law
+returns-in-Some-clause-law g c = λ x r a.
+    let (t, allowed, read) = c.in-Some.ensures in
+    read.1 x r (allowed-tree c.args.limits c.args.bytes.now t (g.T.Deserialize.image x) allowed a)
+
 pub returns-in-Ok-from_value-clause-law : goal.returns-in-Ok-from_value-clause-law
 returns-in-Ok-from_value-clause-law g c = λ x r a.
     c.in-Ok-from_value.ensures.law x r (allowed-tree c.args.limits c.args.bytes.now (tree_of c.in-Ok.value) (g.T.Deserialize.image x) c.in-Ok.ensures.ok a)

@@ -4,7 +4,7 @@ use Rattle.amqp_messaging.proofs.message.read.read_all.Given as goal
 
 abbrev pub invariant-loop-rest : goal.invariant-loop-rest
 invariant-loop-rest g l =
-    (taken : List ℕ) × ReadsAll g.T.Deserialize.reads taken l.sections.items × (l.bytes ≡ taken ++ l.rest)
+    (taken : List ℕ) × ReadsAll l.limits g.T.Deserialize.reads taken l.sections.items × (l.bytes ≡ taken ++ l.rest)
 
 abbrev pub decreases-loop-rest : goal.decreases-loop-rest
 decreases-loop-rest g l = length l.rest

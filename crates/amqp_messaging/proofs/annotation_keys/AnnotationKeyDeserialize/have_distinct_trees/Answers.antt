@@ -1,0 +1,24 @@
+use Rattle.std.proofs.Common.{◌≡◌, true}
+use Rattle.std.proofs.lemmas.Cmp.{nat_eq_equiv, nat_list_eq_equiv}
+use Rattle.amqp_data.specs.Text.{symbol_text}
+use Rattle.amqp_ser.specs.Tree.{Tree}
+use Rattle.amqp_de.proofs.MapReadings.{trees_apart}
+use Rattle.amqp_messaging.specs.contracts.annotation_keys.AnnotationKeyDeserialize.TheImpl as own
+use Rattle.amqp_messaging.specs.contracts.identifiers.AnnotationKeyPartialEq.TheImpl as equality
+use Rattle.amqp_messaging.specs.declared.identifiers.AnnotationKey.{AnnotationKey}
+use Rattle.amqp_messaging.specs.declared.identifiers.AnnotationKey.TheVariants as variant
+use Rattle.amqp_messaging.proofs.annotation_keys.AnnotationKeyDeserialize.have_distinct_trees.Goals as goal
+
+-- Keys that are read from one tree are equal.
+same_key : (t : Tree) (x y : AnnotationKey) → own.ghosts.reads t x → own.ghosts.reads t y → equality.ghosts.eq x y ≡ true
+same_key t (variant.Symbol a) (variant.Symbol b) r s =
+    let same : symbol_text a ≡ symbol_text b = cc in
+    rw same (nat_list_eq_equiv.refl (symbol_text b))
+same_key t (variant.Symbol a) (variant.Ulong b) r s = absurd cc
+same_key t (variant.Ulong a) (variant.Symbol b) r s = absurd cc
+same_key t (variant.Ulong a) (variant.Ulong b) r s =
+    let same : a ≡ b = cc in
+    rw same (nat_eq_equiv.refl b)
+
+pub returns : goal.returns
+returns g c = trees_apart own.ghosts.reads equality.ghosts.eq same_key c.keys_differ.result _ c.keys_differ.ensures
