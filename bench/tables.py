@@ -168,9 +168,9 @@ def targets(names, found):
             if not limit:
                 return '-'
             text = form % (count(call, 'project') / (count(by or call, who) if who else 1))
-            return '%s of %s' % (text if float(text) <= limit else '**%s**' % text, limit)
+            return '%s/%s' % (text if float(text) <= limit else '**%s**' % text, limit)
         cells = [told(most_bytes, '%.2f', 1, 'table'), told(most_size, '%.2f', 0, 'table'), told(most, '%.0f', 0)]
-        cells += ['%d + 1' % (int(found[shape, 1, 'project']['calls']) - 1)]
+        cells += ['%d+1' % (int(found[shape, 1, 'project']['calls']) - 1)]
         cells += [told(MOST_UNTYPED_SIZE, '%.2f', UNTYPED_SIZE, 'values'), told(MOST_UNTYPED_BYTES, '%.2f', UNTYPED_BYTES, 'values')]
         cells += [told(MOST_MESSAGE if name == 'message' else None, '%.2f', 1, 'values', UNTYPED_BYTES)]
         for row, cell in zip(rows, cells):
