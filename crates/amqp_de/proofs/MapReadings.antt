@@ -228,4 +228,3 @@ value_told t x y r s = equal-is_same x y ∙ rw (r ∙ sym s) (same-itself (tree
 
 pub values_apart : (b : Bool) (xs : List Value) → OnTrue b (AreDistinct equal xs) → OnTrue b ((ts : List Tree) → AllZip (λ t x. tree_of x ≡ t) ts xs → AreApart ts)
 values_apart = trees_apart (λ t x. tree_of x ≡ t) equal value_told
-
