@@ -1,3 +1,5 @@
 -- Definitions in the contracts of public items.
 pub mod Kept
 pub mod Safe
+-- Definitions that only private clauses use.
+pub mod Masks

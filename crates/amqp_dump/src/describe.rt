@@ -102,8 +102,8 @@ fn describe_compound(
     Ok(())
 }
 
-// The kind of the elements of the innermost array.
-fn element_kind(levels: &[Level]) -> Option<(Kind, u8)> {
+/// The kind of the elements of the innermost array, and their format code.
+pub(crate) fn element_kind(levels: &[Level]) -> Option<(Kind, u8)> {
     let level = levels.last()?;
     let (kind, _) = kind_of(level.code)?;
     Some((kind, level.code))

@@ -6,6 +6,7 @@ use crate::json::{Json, push_json_fault};
 use crate::level::{Level, LevelKind};
 use crate::line::Line;
 use crate::marks::Marks;
+use crate::masks::Masks;
 use crate::options::{Form, Options};
 use crate::scanner::Scanner;
 use crate::select::Selector;
@@ -39,6 +40,7 @@ struct Dumper {
     marks: Marks,
     json: Json,
     line: Line,
+    masks: Masks,
     // The depth of the value that is selected, if one is.
     selected: Option<usize>,
     // Whether the rest of the frame has no JSON.
@@ -48,7 +50,8 @@ struct Dumper {
 
 /// Shows an input: the values that `selector` selects, or all.
 ///
-/// Goes on at the next frame after a fault in a frame, and ends at any other fault.
+/// Goes on at the next frame after a fault in a frame, and ends at any other fault. At most 256
+/// bytes are written for a byte of the input, and 1 MiB.
 ///
 /// # Errors
 ///
@@ -58,8 +61,8 @@ struct Dumper {
 ///
 /// # Memory
 ///
-/// One entry for each open value, one item, and 8 KiB of text. A JSON object is kept until it is
-/// whole.
+/// One entry and one mask of the path for each open value, one item, and 8 KiB of text. A JSON
+/// object is kept until it is whole.
 pub fn run<S: Taking, W: Write>(
     alloc: Global,
     source: &mut S,
@@ -78,6 +81,7 @@ pub fn run<S: Taking, W: Write>(
         marks: Marks::new(alloc),
         json: Json::new(alloc),
         line: Line::new(alloc, options.color),
+        masks: Masks::new(alloc),
         selected: None,
         is_muted: false,
         report: Report {
@@ -151,9 +155,10 @@ impl Dumper {
 
     // Shows an item.
     fn show(&mut self, item: Item, bytes: &[u8], selector: Option<&Selector>) -> Result<(), Fault> {
-        self.report.summary.add(item, bytes.len());
+        let levels = self.scanner.levels();
+        self.report.summary.add(item, levels, bytes.len());
         if self.options.form == Form::Tree {
-            self.marks.add(item, self.scanner.levels(), bytes)?;
+            self.marks.add(item, levels, bytes)?;
         }
         if !self.is_selected(item, selector)? {
             return Ok(());
@@ -200,6 +205,7 @@ impl Dumper {
         let Some(selector) = selector else {
             return Ok(true);
         };
+        self.masks.close(item.depth);
         if self.selected.is_some() {
             return Ok(true);
         }
@@ -212,7 +218,9 @@ impl Dumper {
             ItemKind::Described(code) => code,
             _ => None,
         };
-        let is_selected = selector.selects(self.alloc, self.scanner.roots(), outer, descriptor)?;
+        let roots = self.scanner.roots();
+        let masks = &mut self.masks;
+        let is_selected = selector.selects(self.alloc, masks, roots, outer, descriptor)?;
         if is_selected {
             self.selected = Some(item.depth);
         }

@@ -7,6 +7,7 @@
 mod compounds;
 mod describe;
 mod dumper;
+mod elements;
 mod fault;
 mod frames;
 mod hex_reader;
@@ -16,6 +17,7 @@ mod kinds;
 mod level;
 mod line;
 mod marks;
+mod masks;
 pub mod names;
 mod options;
 mod path;

@@ -24,8 +24,8 @@ pub(crate) fn field_of(level: &Level) -> Option<&'static str> {
     found.fields.get(level.index as usize - 1).copied()
 }
 
-// Returns the step into the level.
-fn step_of(level: &Level) -> Option<Step> {
+/// Returns the step into the level.
+pub(crate) fn step_of(level: &Level) -> Option<Step> {
     let index = u64::from(level.index).checked_sub(1);
     match level.kind {
         LevelKind::Described => Some(Step::Described(level.descriptor?)),
@@ -34,8 +34,8 @@ fn step_of(level: &Level) -> Option<Step> {
     }
 }
 
-/// Returns the steps to the value that was begun last, inside these levels.
-pub(crate) fn steps_to(alloc: Global, roots: u64, levels: &[Level]) -> Result<Vec<Step>, Fault> {
+// Returns the steps to the value that was begun last, inside these levels.
+fn steps_to(alloc: Global, roots: u64, levels: &[Level]) -> Result<Vec<Step>, Fault> {
     let mut steps = Vec::new(alloc);
     steps.push(Step::Value(roots.saturating_sub(1), None))?;
     for level in levels {

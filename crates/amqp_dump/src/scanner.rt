@@ -13,9 +13,6 @@ use std::alloc::Global;
 /// The most values that are open at once, as in `decode_value`.
 pub const MAX_DEPTH: usize = 256;
 
-// An array of more elements without bytes is one item.
-const SHOWN: u32 = 255;
-
 // A binary or a text of which bytes are left.
 #[derive(Clone, Copy, Debug)]
 pub(crate) struct Long {
@@ -40,6 +37,8 @@ pub struct Scanner {
     // The most bytes of a payload that are not split.
     pub(crate) piece: usize,
     frames: bool,
+    // The number of elements without bytes that were items of their own.
+    pub(crate) shown: u64,
     // What is left of an extended header.
     pub(crate) extended: u32,
     // Whether the rest of the frame is not read as values.
@@ -64,6 +63,7 @@ impl Scanner {
             roots: 0,
             piece,
             frames,
+            shown: 0,
             extended: 0,
             skipping: false,
             more: false,
@@ -217,25 +217,6 @@ impl Scanner {
             return self.open_described(source);
         }
         self.take_payload(source, code)
-    }
-
-    // Takes an element of an array.
-    pub(crate) fn take_element<S: Taking>(
-        &mut self,
-        source: &mut S,
-        level: Level,
-    ) -> Result<ItemKind, Fault>
-        ensures kept { Stays (S.held source.old) (S.left source.old) (S.held source.new)
-            (S.left source.new) }
-    {
-        if level.code / 16 == 4 && level.count > SHOWN {
-            if let Some(level) = self.levels.last_mut() {
-                level.index = level.count;
-            }
-            return Ok(ItemKind::Repeats(level.count));
-        }
-        self.advance();
-        self.take_payload(source, level.code)
     }
 
     // Takes what follows a format code.

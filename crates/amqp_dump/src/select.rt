@@ -2,8 +2,10 @@
 
 use crate::fault::Fault;
 use crate::level::Level;
+use crate::masks::{Masks, after};
 use crate::names;
-use crate::path::{Step, steps_to};
+use crate::path::{Step, step_of};
+use crate::scanner::MAX_DEPTH;
 use std::alloc::Global;
 
 /// A path that selects values.
@@ -49,38 +51,57 @@ impl Selector {
         Ok(Some(Selector { words, is_anchored }))
     }
 
-    /// Returns whether the path selects the value that was begun last, inside these levels.
+    /// Returns whether the path selects the value that was begun last, inside these levels. `masks`
+    /// are those of the levels before, and get those of the levels that have none.
     pub(crate) fn selects(
         &self,
         alloc: Global,
+        masks: &mut Masks,
         roots: u64,
         outer: &[Level],
         descriptor: Option<u64>,
     ) -> Result<bool, Fault> {
-        let mut steps = steps_to(alloc, roots, outer)?;
-        if self.fits_at(steps.as_slice()) {
-            return Ok(true);
+        if self.words.len() > MAX_DEPTH + 1 {
+            return Ok(false);
         }
-        if let Some(code) = descriptor {
-            steps.push(Step::Described(code))?;
-            return Ok(self.fits_at(steps.as_slice()));
+        if masks.len() == 0 {
+            let mut start = vec![in alloc; false; self.words.len() + 1]?;
+            if let Some(is_open) = start.first_mut() {
+                *is_open = self.is_anchored;
+            }
+            let root = Step::Value(roots.saturating_sub(1), None);
+            masks.push(self.mask_after(alloc, start.as_slice(), Some(root))?)?;
         }
-        Ok(false)
+        let (_, levels) = outer.split_at(masks.len().saturating_sub(1).min(outer.len()));
+        for level in levels {
+            let mask = self.mask_after(alloc, masks.last(), step_of(level))?;
+            masks.push(mask)?;
+        }
+        let Some(code) = descriptor else {
+            return Ok(is_whole(masks.last()));
+        };
+        let inner = self.mask_after(alloc, masks.last(), Some(Step::Described(code)))?;
+        Ok(is_whole(masks.last()) || is_whole(inner.as_slice()))
     }
 
-    // Whether the path selects the value to which these steps lead.
-    fn fits_at(&self, steps: &[Step]) -> bool {
-        if self.is_anchored {
-            return fits(steps, self.words.as_slice());
+    // Returns the mask after a step, or the same if there is none.
+    fn mask_after(
+        &self,
+        alloc: Global,
+        before: &[bool],
+        step: Option<Step>,
+    ) -> Result<Vec<bool>, Fault> {
+        let mut matched = Vec::new(alloc);
+        let Some(step) = step else {
+            matched.extend_from_slice(before)?;
+            return Ok(matched);
+        };
+        for word in self.words.iter() {
+            matched.push(is_match(word, &step))?;
         }
-        let mut rest = steps;
-        while let Some((first, others)) = rest.split_first() {
-            if matches!(first, Step::Described(_)) && fits(rest, self.words.as_slice()) {
-                return true;
-            }
-            rest = others;
-        }
-        false
+        let is_descriptor = matches!(step, Step::Described(_));
+        let is_start = is_descriptor && !self.is_anchored;
+        after(alloc, before, matched.as_slice(), is_descriptor, is_start)
     }
 }
 
@@ -104,29 +125,17 @@ fn word_of(alloc: Global, name: &str, is_first: bool) -> Result<Option<Word>, Fa
     Ok(names::code_of_name(name).map(Word::Descriptor))
 }
 
-// Whether the words are all of the steps, but for descriptors that no word names.
-fn fits(steps: &[Step], words: &[Word]) -> bool {
-    let mut words = words;
-    let mut is_exact = true;
-    for step in steps {
-        let (word, rest) = match words.split_first() {
-            Some((word, rest)) => (Some(word), rest),
-            None => (None, words),
-        };
-        let is_match = match (step, word) {
-            (Step::Described(code), Some(Word::Descriptor(wanted))) => code == wanted,
-            (Step::Value(index, _), Some(Word::Index(wanted))) => index == wanted,
-            (Step::Value(_, Some(name)), Some(Word::Field(wanted))) => wanted.as_str() == *name,
-            _ => false,
-        };
-        if is_match {
-            words = rest;
-            is_exact = true;
-        } else if matches!(step, Step::Described(_)) {
-            is_exact = false;
-        } else {
-            return false;
-        }
+// Whether the steps match all words.
+fn is_whole(mask: &[bool]) -> bool {
+    mask.last().copied().unwrap_or(false)
+}
+
+// Whether a step is that of a word.
+fn is_match(word: &Word, step: &Step) -> bool {
+    match (step, word) {
+        (Step::Described(code), Word::Descriptor(wanted)) => code == wanted,
+        (Step::Value(index, _), Word::Index(wanted)) => index == wanted,
+        (Step::Value(_, Some(name)), Word::Field(wanted)) => wanted.as_str() == *name,
+        _ => false,
     }
-    words.is_empty() && is_exact
 }

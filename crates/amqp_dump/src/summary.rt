@@ -1,8 +1,10 @@
 //! Counts of what an input holds.
 
+use crate::describe::element_kind;
 use crate::fault::Fault;
 use crate::item::{Item, ItemKind};
 use crate::kinds::Kind;
+use crate::level::Level;
 use crate::names;
 use crate::scanner::MAX_DEPTH;
 use std::alloc::Global;
@@ -79,10 +81,14 @@ impl Summary {
         })
     }
 
-    /// Counts an item with these many bytes.
-    pub(crate) fn add(&mut self, item: Item, len: usize) {
+    /// Counts an item with these many bytes. `levels` are those that are open after it.
+    pub(crate) fn add(&mut self, item: Item, levels: &[Level], len: usize) {
+        let times = match item.kind {
+            ItemKind::Repeats(count) => u64::from(count),
+            _ => 1,
+        };
         if item.kind.begins_value() {
-            count(&mut self.depths, item.depth);
+            count(&mut self.depths, item.depth, times);
         }
         if item.depth == 0 && item.kind.begins_root() {
             self.end_root();
@@ -91,13 +97,18 @@ impl Summary {
         self.add_bytes(len);
         match item.kind {
             ItemKind::Described(Some(code)) if code < TYPES as u64 => {
-                count(&mut self.types, code as usize);
+                count(&mut self.types, code as usize, 1);
             }
             ItemKind::Described(_) | ItemKind::Reserved => {
                 self.others = self.others.saturating_add(1);
             }
             ItemKind::Opens(kind, _, _) | ItemKind::Scalar(kind, _) | ItemKind::Long(kind, _) => {
-                count(&mut self.kinds, kind as usize);
+                count(&mut self.kinds, kind as usize, 1);
+            }
+            ItemKind::Repeats(_) => {
+                if let Some((kind, _)) = element_kind(levels) {
+                    count(&mut self.kinds, kind as usize, times);
+                }
             }
             ItemKind::Frame(_, _) => self.frames = self.frames.saturating_add(1),
             _ => {}
@@ -114,7 +125,7 @@ impl Summary {
     pub(crate) fn end_root(&mut self) {
         if let Some(size) = self.root {
             let class = SIZES.iter().position(|(end, _)| size < *end);
-            count(&mut self.sizes, class.unwrap_or(4));
+            count(&mut self.sizes, class.unwrap_or(4), 1);
         }
         self.root = None;
     }
@@ -164,10 +175,10 @@ impl Summary {
     }
 }
 
-// Counts one at a place.
-fn count(counts: &mut Vec<u64>, place: usize) {
+// Counts this many at a place.
+fn count(counts: &mut Vec<u64>, place: usize, times: u64) {
     if let Some(count) = counts.get_mut(place) {
-        *count = count.saturating_add(1);
+        *count = count.saturating_add(times);
     }
 }
 

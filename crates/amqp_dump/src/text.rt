@@ -22,7 +22,8 @@ pub(crate) fn push_text(
     in_payload: bool,
 ) -> Result<(), Fault> {
     let (outer, _) = levels.split_at(item.depth.min(levels.len()));
-    if item.kind.begins_value() && item.depth > base {
+    let is_all = matches!(item.kind, ItemKind::Repeats(_));
+    if item.kind.begins_value() && !is_all && item.depth > base {
         line.push(separator(outer))?;
     }
     match item.kind {

@@ -13,6 +13,9 @@ use std::alloc::Global;
 // The width of the bytes of a line, in bytes of two digits.
 const WIDTH: usize = 13;
 
+// The most columns by which a line is indented.
+const MAX_INDENT: usize = 64;
+
 /// Appends the line of an item, if it has one. `levels` are those that are open after the item, and
 /// the item is inside of the first `item.depth`.
 pub(crate) fn push_line(
@@ -33,7 +36,7 @@ pub(crate) fn push_line(
     }
     let (outer, _) = levels.split_at(item.depth.min(levels.len()));
     push_bytes(line, item.at, bytes, options)?;
-    line.indent(indent_of(outer))?;
+    push_indent(line, indent_of(outer), item.depth)?;
     push_label(line, outer)?;
     describe(alloc, line, item, levels, bytes)?;
     for mark in marks {
@@ -54,7 +57,7 @@ pub(crate) fn push_fault(
     options: &Options,
 ) -> Result<(), Fault> {
     push_bytes(line, start, bytes, options)?;
-    line.indent(depth.saturating_mul(2))?;
+    push_indent(line, depth.saturating_mul(2), depth)?;
     line.word(Part::Fault, "!")?;
     line.word(Part::Fault, found.text(alloc)?.as_str())?;
     line.push("\n")
@@ -86,6 +89,15 @@ fn push_bytes(line: &mut Line, at: u64, bytes: &[u8], options: &Options) -> Resu
             .saturating_mul(2)
             .saturating_add(2),
     )
+}
+
+// Appends this many spaces, or the most and the depth in brackets.
+fn push_indent(line: &mut Line, count: usize, depth: usize) -> Result<(), Fault> {
+    line.indent(count.min(MAX_INDENT))?;
+    if count > MAX_INDENT {
+        write!(line.text, "[{depth}] ")?;
+    }
+    Ok(())
 }
 
 // Returns two spaces for each level outside, and two more for a value of a map.
