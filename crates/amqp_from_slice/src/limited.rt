@@ -74,13 +74,20 @@ pub fn from_slice_with<T: Deserialize>(
     ensures { Answers (λ e. e ≡ OutOfMemory)
         (ReadsAllowed T.reads (limits_for limits bytes.now) bytes.now) result }
 {
-    let limits = match limits {
-        Some(limits) => limits,
-        None => Limits::for_length(bytes.len()),
-    };
-    match from_slice_limited::<T>(alloc, bytes, limits) {
+    match from_slice_limited::<T>(alloc, bytes, limits_or_default(limits, bytes)) {
         Ok(read) => Ok(read),
         Err(error) => Err(error),
+    }
+}
+
+// Returns these limits, or for `None` those for the length of the bytes.
+#[inline(always)]
+fn limits_or_default(limits: Option<Limits>, bytes: &[u8]) -> Limits
+    ensures { result ≡ limits_for limits bytes.now }
+{
+    match limits {
+        Some(limits) => limits,
+        None => Limits::for_length(bytes.len()),
     }
 }
 

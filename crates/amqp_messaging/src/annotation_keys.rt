@@ -12,13 +12,18 @@ impl Deserialize for AnnotationKey {
     ghost use Rattle.serde_amqp.specs.Derive.{symbol_text, Scalar, scalar, ulong, symbol, Always};
     ghost use Rattle.amqp_messaging.specs.declared.identifiers.AnnotationKey.TheVariants as variant;
 
-    ghost reads = { λ t x. t ≡ scalar (elim x as (λ _. Scalar) [ variant.Symbol v ↦ symbol (symbol_text v) | variant.Ulong v ↦ ulong v ]) };
+    ghost reads = { λ t x. t ≡ scalar (elim x as (λ _. Scalar)
+        [ variant.Symbol v ↦ symbol (symbol_text v) | variant.Ulong v ↦ ulong v ]) };
 
-    ghost image = { λ x. scalar (elim x as (λ _. Scalar) [ variant.Symbol v ↦ symbol (symbol_text v) | variant.Ulong v ↦ ulong v ]) };
+    ghost image = { λ x. scalar (elim x as (λ _. Scalar)
+        [ variant.Symbol v ↦ symbol (symbol_text v) | variant.Ulong v ↦ ulong v ]) };
 
     ghost restorable = { Always };
 
-    ghost same = { λ x y. scalar (elim x as (λ _. Scalar) [ variant.Symbol v ↦ symbol (symbol_text v) | variant.Ulong v ↦ ulong v ]) ≡ scalar (elim y as (λ _. Scalar) [ variant.Symbol v ↦ symbol (symbol_text v) | variant.Ulong v ↦ ulong v ]) };
+    ghost same = { λ x y. scalar (elim x as (λ _. Scalar)
+        [ variant.Symbol v ↦ symbol (symbol_text v) | variant.Ulong v ↦ ulong v ])
+        ≡ scalar (elim y as (λ _. Scalar)
+        [ variant.Symbol v ↦ symbol (symbol_text v) | variant.Ulong v ↦ ulong v ]) };
 
     fn deserialize<D: Deserializer>(
         _alloc: Global,

@@ -2,7 +2,7 @@
 //! [`Unknown`], a described value of another type.
 //!
 //! `tools/types` writes the types from a table that lists them as the standard does, and
-//! `tools/derive` their impls; [`message`] and how an [`AnnotationKey`] is read are written by hand.
+//! `tools/derive` their impls; [`message`] and how [`AnnotationKey`] is read are written by hand.
 #![tactic(auto)]
 
 mod annotation_keys;
