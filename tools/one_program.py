@@ -153,6 +153,7 @@ def assemble(room):
     (to / "main.rt").write_text(top, encoding="utf-8")
     for name in modules:
         shutil.rmtree(room / "crates" / name)
-    kept = [f"{' '.join([name, *words])}: {' '.join(needed)}\n" for name, (words, needed) in lines.items() if name not in modules]
+    kept = [it for it in lines.items() if not {it[0], *it[1][1]} & {*modules}]
+    kept = [f"{' '.join([name, *words])}: {' '.join(needed)}\n" for name, (words, needed) in kept]
     (room / "crates.txt").write_text("".join([*kept, f"{NAME}: {' '.join(dict.fromkeys(below))}\n"]), encoding="utf-8")
     return modules, [name for name, _, _ in found if name not in modules]
