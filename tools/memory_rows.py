@@ -10,6 +10,7 @@ end with status 0, and its line must have `<out of memory>` in place of its resu
 While an allocation for the headers of a `Value` fails, which a call of `to_vec` makes for the value as a whole, no line may differ: the
 headers are recorded part by part then. `HEADERS` is the number of these. While an allocation fails that a call which reads a type from
 bytes makes in one pass, no line may differ either: the call reads the type from an untyped value then. `ONE_PASS` is the number of these.
+Nor while the room for the entries of an `OrderedMap` that is read cannot be reserved at once: `RESERVED`.
 
 The rows of tests/memory/optional_rows make calls that go on without some of their allocations: the hashes of keys, the index of
 a map, the capacity of a list. They are run likewise, with `OPTIONAL` allocations that may fail without a change.
@@ -32,10 +33,13 @@ HEADERS = 167
 # The requests that the calls of the rows of `read` make in one pass, and for the tables of headers of the lazy values that are read
 # and written on the way.
 ONE_PASS = 266
+# Of the rows of `read` whose type has an `OrderedMap`: one for each that is read from an untyped value.
+RESERVED = 7
 # Two for the hashes of each of two maps that are decoded. For each of the four calls of the rows of `read`: two for the hashes of each
-# of two maps, decoded or made by `to_value`; two for an index; one for each of two lists. And 14 of tables of headers, and 5 in each of
-# three passes over the list of lists. And the requests of the calls of the rows of `read` that read in one pass.
-OPTIONAL = 65 + 297
+# of two maps, decoded or made by `to_value`; two for the hashes of an `OrderedMap`; one for each of two lists. One for the room of an
+# `OrderedMap`. And 14 of tables of headers, and 5 in each of three passes over the list of lists. And the requests of the calls of the
+# rows of `read` that read in one pass.
+OPTIONAL = 66 + 297
 
 
 def run(rows, **refused):
@@ -120,7 +124,7 @@ def main():
     rows, expected = rows_of("deep_rows")
     if run(rows, REFUSE_PAST="16777216")[:2] != (0, expected):
         wrong("deep or wide values of a mebibyte take more than 16 MiB at once, or have other results")
-    fail_each("rows", HEADERS + ONE_PASS)
+    fail_each("rows", HEADERS + ONE_PASS + RESERVED)
     fail_each("optional_rows", OPTIONAL)
 
 
