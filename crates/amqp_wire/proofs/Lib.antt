@@ -20,11 +20,3 @@ pub mod EndedBytes
 pub mod EncodePasses
 pub mod WholeValues
 pub mod LazyRoot
-mod FormLemmas
-mod Given
-mod SinkLaws
-mod PartSteps
-mod Beginning
-mod Ending
-mod DescribedParts
-mod Rooted

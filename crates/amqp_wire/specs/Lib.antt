@@ -11,10 +11,3 @@ pub mod Positions
 pub mod State
 pub mod Writer
 pub mod Measurer
--- Definitions that only private clauses use: what a pass that may give up permits.
-pub mod When
-pub mod Places
-pub mod Kept
-pub mod Forms
-pub mod Gives
-pub mod Encoded
