@@ -56,9 +56,9 @@ impl Masks {
     }
 }
 
-/// Returns the mask after a step. `before` is the mask before it, `matched` says of each word
-/// whether the step matches it, and `is_descriptor` whether it is a descriptor, which may stand
-/// between those of the words. If `is_start` is true, the path may begin with the step.
+/// Returns the mask after a step. `before` is the mask before it, and `matched` says of each word
+/// whether the step matches it. If `is_descriptor` is true, the step is a descriptor: it may come
+/// between two words that do not name it. If `is_start` is true, the path may begin with the step.
 pub(crate) fn after(
     alloc: Global,
     before: &[bool],
