@@ -1,5 +1,6 @@
 pub mod Firsts
 pub mod Gathered
+pub mod HashPlaces
 pub mod Inserted
 pub mod Keys
 pub mod Lists

@@ -1,5 +1,5 @@
 -- What is read from a map, from what is read from its keys and values.
-use Rattle.std.proofs.Common.{◌≡◌, ℕ, suc, ◌+◌, ◌-◌, ◌<◌, ◌≤◌, Bool, true, false, true≢false, if◌then◌else◌, List, [], ◌∷◌, ◌++◌, length, position, map, Some, None, refl, sym, ap, ◌∙◌, subst, fold, arith}
+use Rattle.std.proofs.Common.{◌≡◌, ℕ, suc, ◌+◌, ◌-◌, ◌<◌, ◌≤◌, Bool, true, false, true≢false, if◌then◌else◌, List, [], ◌∷◌, ◌++◌, length, position, map, Some, None, refl, sym, ap, ◌∙◌, subst, arith}
 use Rattle.std.specs.Bool.{OnTrue}
 use Rattle.std.specs.List.{AllZip, AllByRecursion}
 use Rattle.std.specs.Cmp.{IsTotalOrder}
@@ -7,7 +7,7 @@ use Rattle.std.specs.Map.{keys_of}
 use Rattle.std.specs.Ordering.{is_eq}
 use Rattle.std.specs.declared.cmp.Ordering.{Ordering}
 use Rattle.std.specs.declared.cmp.Ordering.TheVariants.{Less}
-use Rattle.amqp_data.specs.Pairs.{insert_pair, insert_pairs, LacksKey, AreDistinct}
+use Rattle.amqp_data.specs.Pairs.{insert_pair, LacksKey, AreDistinct}
 use Rattle.amqp_data.proofs.Searches.{AllFail, fail_by_position}
 use Rattle.amqp_ser.specs.Same.{same_tree}
 use Rattle.amqp_ser.specs.Tree as tree
@@ -178,17 +178,6 @@ module _ {K V : Type 0} (eq : K → K → Bool) (flips : (k l : K) → eq k l �
 
   pub distinct_unchanged : (es : List (K × V)) → AreDistinct eq (keys_of es) → inserted_in_order eq es ≡ es
   distinct_unchanged es distinct = distinct_inserted eq es (each_differs es distinct)
-
-  -- Entries whose repeated keys are merged are those that are inserted in order.
-  inserted_pairs : (es done : List (K × V)) → insert_pairs eq es done ≡ fold (λ (ds : List (K × V)) (e : K × V). insert_pair eq ds e.0 e.1) done es
-  inserted_pairs [] done = refl
-  inserted_pairs (e ∷ es) done = inserted_pairs es (insert_pair eq done e.0 e.1)
-
-  pub merged_inserted : (new old : List (K × V)) → insert_pairs eq new [] ≡ insert_pairs eq old [] → inserted_in_order eq new ≡ inserted_in_order eq old
-  merged_inserted new old same = sym (inserted_pairs new []) ∙ same ∙ inserted_pairs old []
-
-  pub merged_unchanged : (new old : List (K × V)) → insert_pairs eq new [] ≡ insert_pairs eq old [] → AreDistinct eq (keys_of new) → new ≡ inserted_in_order eq old
-  merged_unchanged new old same distinct = sym (distinct_unchanged new distinct) ∙ merged_inserted new old same
 
 -- A type that is read from scalars of one kind, and a test that holds for keys of the same content.
 module _ {T A : Type 0} (kind : A → Scalar) (told : (a b : A) → kind a ≡ kind b → a ≡ b) (content : T → A) (eq : T → T → Bool) (equal : (x y : T) → content x ≡ content y → eq x y ≡ true) where

@@ -1,7 +1,8 @@
--- The contracts of public items use all of these modules but NextField.
+-- The contracts of public items use all of these modules but NextField and SortedHashes.
 pub mod Values
 pub mod Maps
 pub mod EncodedMaps
+pub mod SortedHashes
 pub mod Reads
 pub mod Fields
 pub mod Present

@@ -12,6 +12,7 @@ mod maps;
 mod multiple;
 mod numbers;
 mod primitives;
+mod sorted_hashes;
 mod texts;
 mod tuples;
 

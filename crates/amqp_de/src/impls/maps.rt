@@ -17,10 +17,11 @@ use crate::deserialize::Deserialize;
 use crate::deserialize_error::DeserializeError;
 use crate::deserializer::Deserializer;
 use crate::impls::encoded_maps::{keys_and_trees_differ, keys_differ, read_entries};
-use amqp_data::{OrderedMap, merge_repeated_keys};
+use crate::impls::sorted_hashes::insert_by_hashes;
+use amqp_data::OrderedMap;
 use amqp_decode::prefix::{GaveUp, below, split_map};
 use amqp_value::ValueKind;
-use std::alloc::Global;
+use std::alloc::{AllocError, Global};
 use std::collections::{BTreeMap, HashMap};
 use std::hash::Hash;
 
@@ -90,26 +91,20 @@ fn read_pairs<K: Deserialize, V: Deserialize, M: Inserts<K, V>, D: Deserializer>
     }
 }
 
-/// Makes a map of the entries, inserted in order. Equal keys are found by their hashes.
+/// Makes a map of the entries, inserted in order.
 ///
 /// # Errors
-/// Returns an error if an allocation fails.
+/// Returns `AllocError` if an allocation fails.
 fn once_each<K: Hash + Eq + Drop, V: Drop>(
     alloc: Global,
     entries: Vec<(K, V)>,
-) -> Result<OrderedMap<K, V>, GaveUp>
+) -> Result<OrderedMap<K, V>, AllocError>
     ensures { IfOk result (HoldsInOrder K.eq entries.items) }
 {
     if keys_differ(alloc, &entries) {
-        return Ok(OrderedMap::from_distinct(entries));
-    }
-    let mut entries = entries;
-    if merge_repeated_keys(alloc, &mut entries)? {
-        return Ok(OrderedMap::from_distinct(entries));
-    }
-    match insert_all::<K, V, OrderedMap<K, V>>(alloc, entries) {
-        Ok(map) => Ok(map),
-        Err(error) => Err(error),
+        Ok(OrderedMap::from_distinct(entries))
+    } else {
+        insert_by_hashes(alloc, entries)
     }
 }
 
@@ -130,18 +125,6 @@ fn insert_all<K: Drop, V: Drop, M: Inserts<K, V>>(
         }
     }
     Ok(map)
-}
-
-impl<K: Hash + Eq + Drop, V: Drop> Inserts<K, V> for OrderedMap<K, V> {
-    ghost holds = { HoldsInOrder K.eq };
-
-    fn empty(alloc: Global, _count: usize) -> OrderedMap<K, V> {
-        OrderedMap::new(alloc)
-    }
-
-    fn put(&mut self, key: K, value: V) -> bool {
-        OrderedMap::insert(self, key, value).is_ok()
-    }
 }
 
 impl<K: Drop, V: Drop> Inserts<K, V> for Vec<(K, V)> {
