@@ -17,3 +17,8 @@ constructor_after byte s = if byte == 224 then slice_get s 2 else if byte == 240
 abbrev pub ArePlain : List ℕ → Type 0
 ArePlain [] = Unit {0}
 ArePlain (byte ∷ s) = (is_plain (constructor_after byte s) ≡ true) × ArePlain s
+
+-- No byte is the code of an array.
+abbrev pub BeginNoArray : List ℕ → Type 0
+BeginNoArray [] = Unit {0}
+BeginNoArray (byte ∷ s) = (((byte == 224) ≡ false) × ((byte == 240) ≡ false)) × BeginNoArray s

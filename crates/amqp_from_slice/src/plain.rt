@@ -1,9 +1,9 @@
 //! Search for arrays of elements without bytes, before anything is decoded.
 
-ghost use Rattle.std.specs.Prelude.{◌≡◌, ℕ, true};
+ghost use Rattle.std.specs.Prelude.{◌≡◌, ◌≤◌, ℕ, length, true};
 ghost use Rattle.std.specs.Bool.{OnTrue};
 ghost use Rattle.amqp_decode.specs.WithoutBytes.{elements_without_bytes};
-ghost use Rattle.amqp_from_slice.specs.Arrays.{ArePlain, constructor_after, is_plain};
+ghost use Rattle.amqp_from_slice.specs.Arrays.{ArePlain, BeginNoArray, constructor_after, is_plain};
 
 // Returns true if it is certain that an encoded value at the start of the bytes has no array
 // elements without bytes. Returns false for an array of arrays, and maybe for a compound with a
@@ -56,6 +56,7 @@ fn are_plain(bytes: &[u8]) -> bool
 {
     let mut rest = bytes;
     'bytes: loop {
+        rest = after_words(rest);
         match rest.split_first() {
             Some((first, others)) => {
                 if !is_plain_after(*first, others) {
@@ -66,6 +67,34 @@ fn are_plain(bytes: &[u8]) -> bool
             None => return true,
         }
     }
+}
+
+// Skips sixteen bytes at a time, as long as none of them is the code of an array.
+#[inline(always)]
+fn after_words(bytes: &[u8]) -> &[u8]
+    ensures plain { ArePlain result.now → ArePlain bytes.now }
+    ensures length { length result.now ≤ length bytes.now }
+{
+    let mut rest = bytes;
+    'words: loop {
+        match rest.split_first_chunk::<16>() {
+            Some((word, others)) if begin_no_array(word) => rest = others,
+            _ => return rest,
+        }
+    }
+}
+
+// Returns whether no byte is the code of an array. Tests all, so that it is compiled to a test of
+// sixteen bytes at once.
+#[inline(always)]
+fn begin_no_array(word: &[u8; 16]) -> bool
+    ensures { OnTrue result (BeginNoArray word.now) }
+{
+    let mut none = true;
+    for i in 0..16 {
+        none = none & (word[i] != 0xe0) & (word[i] != 0xf0);
+    }
+    none
 }
 
 // Returns whether the byte is the code of no array, or the elements of the array have bytes and are
