@@ -3,11 +3,11 @@
 pub mod ResultBytes
 pub mod Appended
 pub mod LazyOf
--- Definitions that only private clauses use: the law of the two passes.
-pub mod TreeHeaders
-pub mod Dense
-pub mod HeaderBytes
-pub mod Positions
-pub mod State
-pub mod Writer
-pub mod Measurer
+-- Definitions that only private clauses use: what a pass that may give up permits.
+pub mod When
+pub mod Places
+pub mod Kept
+pub mod Forms
+pub mod Gives
+pub mod ScalarForms
+pub mod Encoded

@@ -2,7 +2,8 @@
 
 ghost use Rattle.amqp_wire.specs.Appended.{AppendsBytesOf};
 
-use crate::encode::{measure, unless_refused, write};
+use crate::hints::Hints;
+use crate::passes::{append_value, error_of, measure};
 use amqp_data::Error;
 use amqp_ser::{Header, Serialize};
 use std::alloc::Global;
@@ -25,6 +26,7 @@ use std::mem;
 ///
 /// # Example
 /// For `true`, a buffer with the byte `40` then has `4041`.
+#[tactic(auto, using(crate::proofs::Rooted::appended, crate::proofs::Rooted::cut))]
 pub fn append<T: Serialize>(
     alloc: Global,
     headers: &mut Vec<Header>,
@@ -33,23 +35,24 @@ pub fn append<T: Serialize>(
 ) -> Result<(), Error>
     ensures { AppendsBytesOf (T.tree value.now) out.old.items result out.new.items }
 {
-    let mut table = mem::replace(headers, Vec::new(alloc));
-    table.clear();
-    let (measurer, answer) = measure(table, value);
-    let answer = unless_refused(&measurer, answer);
-    *headers = measurer.into_headers();
-    let len = answer?;
-    out.reserve(len)?;
-    let table = mem::replace(headers, Vec::new(alloc));
+    let memory = mem::replace(headers, Vec::new(alloc));
+    let (len, hints) = measure(Hints::with_memory(memory), value);
+    let Some(len) = len else {
+        *headers = hints.into_memory();
+        return Err(error_of(value));
+    };
+    if out.reserve(len).is_err() {
+        *headers = hints.into_memory();
+        return Err(Error::OutOfMemory);
+    }
+    let before = out.len();
     let buffer = mem::replace(out, Vec::new(alloc));
-    let (writer, written) = write(table, buffer, value);
-    let is_whole = writer.is_whole();
-    let (table, bytes) = writer.into_parts();
-    *headers = table;
+    let (is_written, hints, bytes) = append_value(hints, buffer, value);
+    *headers = hints.into_memory();
     *out = bytes;
-    written?;
-    if !is_whole {
-        return Err(Error::InvalidValue);
+    if !is_written {
+        out.truncate(before);
+        return Err(error_of(value));
     }
     Ok(())
 }

@@ -1,23 +1,28 @@
 //! Encodes a value in two passes, with one allocation for the bytes.
 //!
-//! `to_vec` makes two passes over a value. The first pass measures the encoding and lists the
-//! headers of all compounds. Then the buffer is allocated, and the second pass writes into it
-//! without allocating. Unless an allocation fails, `to_vec` succeeds if and only if the tree of the
-//! value is writable, and returns the encoding of the tree.
+//! `to_vec` makes two passes over a value, of one serializer with two sinks. The first pass counts
+//! the bytes and notes a hint, the length and the number of parts, for each compound. Then the
+//! buffer is allocated, and the second pass writes into it without allocating, and compares each
+//! compound with its hint. Unless an allocation fails, `to_vec` succeeds if and only if the tree of
+//! the value is writable, and returns the encoding of the tree.
 #![tactic(auto)]
 
+mod appender;
 mod appending;
+mod counter;
 mod encode;
+mod header;
+mod hints;
 mod lazy_value;
-mod measurer;
-mod next_context;
-mod opening;
-mod output;
-mod position_checks;
-mod scalars;
-mod table;
-mod writer;
-mod writer_compound;
+mod pass;
+mod pass_begin;
+mod pass_compound;
+mod pass_serializer;
+mod passes;
+mod place;
+mod put;
+mod scalar_forms;
+mod sink;
 
 pub use appending::append;
 pub use encode::to_vec;

@@ -1,0 +1,145 @@
+-- The bytes of compounds with a header, and what the sinks promise.
+use Rattle.std.specs.Prelude.{◌≡◌, ℕ, List, [], ◌∷◌, ◌++◌, ◌+◌, ◌≤◌, suc, length, nat_eq, nat_le, ◌&&◌, Bool, true, false, if◌then◌else◌, refl}
+use mathlib.Core.Path.{ap, sym, subst, ◌∙◌}
+use native.Mathlib.Nat.{le_trans, le-add_left, add_assoc, zero-add, suc-add}
+use Rattle.std.specs.Int.{w32, to_be_bytes}
+use Rattle.amqp_ser.specs.Limits.{is_short}
+use Rattle.amqp_ser.specs.Encoding.{list_form, map_form, array_form, wide}
+use Rattle.amqp_ser.specs.Extends.{Extends}
+use Rattle.amqp_wire.specs.declared.counter.Counter.{Counter}
+use Rattle.amqp_wire.specs.declared.sink.HeaderKind.{HeaderKind}
+use Rattle.amqp_wire.specs.declared.sink.HeaderKind.TheVariants as kinds
+use Rattle.amqp_wire.specs.declared.sink.Opened.{Opened}
+use Rattle.amqp_wire.specs.declared.sink.Mark.{Mark}
+use Rattle.amqp_wire.specs.declared.appender.Appender.{Appender}
+
+-- A body of n parts with its header, as an array element or not.
+abbrev pub form : Bool → HeaderKind → ℕ → List ℕ → List ℕ
+form true k n body = wide n body
+form false kinds.List n body = list_form n body
+form false kinds.Map n body = map_form n body
+form false kinds.Array n body = array_form n body
+
+-- The header before a body of m bytes, with the codes for a size of one byte and of four bytes.
+abbrev pub counted_header : ℕ → ℕ → ℕ → ℕ → List ℕ
+counted_header c8 c32 n m = if is_short m then c8 ∷ (m + 1) ∷ n ∷ [] else c32 ∷ (to_be_bytes w32 (m + 4) ++ to_be_bytes w32 n)
+
+abbrev pub header : Bool → HeaderKind → ℕ → ℕ → List ℕ
+header true k n m = to_be_bytes w32 (m + 4) ++ to_be_bytes w32 n
+header false kinds.List n m = if nat_eq m 0 then 0x45 ∷ [] else counted_header 0xc0 0xd0 n m
+header false kinds.Map n m = counted_header 0xc1 0xd1 n m
+header false kinds.Array n m = if is_short m && nat_le n 255 then 0xe0 ∷ (m + 1) ∷ n ∷ [] else 0xf0 ∷ (to_be_bytes w32 (m + 4) ++ to_be_bytes w32 n)
+
+-- The length of the header.
+abbrev pub header_length : Bool → HeaderKind → ℕ → ℕ → ℕ
+header_length true k m n = 8
+header_length false kinds.List m n = if nat_eq m 0 then 1 else if is_short m then 3 else 9
+header_length false kinds.Map m n = if is_short m then 3 else 9
+header_length false kinds.Array m n = if is_short m && nat_le n 255 then 3 else 9
+
+append_assoc : (a b c : List ℕ) → (a ++ b) ++ c ≡ a ++ (b ++ c)
+append_assoc [] b c = refl
+append_assoc (x ∷ a) b c = ap (λ l. x ∷ l) (append_assoc a b c)
+
+append_nil : (a : List ℕ) → a ++ [] ≡ a
+append_nil [] = refl
+append_nil (x ∷ a) = ap (λ l. x ∷ l) (append_nil a)
+
+length_append : (a b : List ℕ) → length (a ++ b) ≡ length a + length b
+length_append [] b = sym (zero-add (length b))
+length_append (x ∷ a) b = ap suc (length_append a b) ∙ sym (suc-add (length a) (length b))
+
+-- The bytes of the first buffer, and then others. A buffer that is spoiled stays so.
+abbrev pub Longer : Appender → Appender → Type 0
+Longer a b = Extends a.out.items b.out.items × (b.spoiled ≡ false → a.spoiled ≡ false)
+
+-- The bytes were appended, unless the buffer is spoiled, and a number can count all.
+pub record Appends (a : Appender) (bs : List ℕ) (b : Appender) : Type 0 where
+  pub longer : Longer a b
+  pub out : b.spoiled ≡ false → b.out.items ≡ a.out.items ++ bs
+  pub few : length b.out.items ≤ 18446744073709551615
+
+-- A compound was opened with its hint, and these bytes were appended since.
+pub record Inside (a : Appender) (e : Bool) (k : HeaderKind) (o : Opened) (b : Appender) (body : List ℕ) : Type 0 where
+  pub longer : Longer a b
+  pub out : b.spoiled ≡ false → b.out.items ≡ (a.out.items ++ header e k o.count o.at) ++ body
+  pub start : b.spoiled ≡ false → o.start ≡ length (a.out.items ++ header e k o.count o.at)
+
+abbrev pub OutMarks : Appender → Mark → Type 0
+OutMarks a m = (m.len ≡ length a.out.items) × (m.spoiled ≡ a.spoiled)
+
+pub longer_self : (a : Appender) → Longer a a
+longer_self a = (([], sym (append_nil a.out.items)), λ s. s)
+
+pub longer_on : (a b c : Appender) → Longer a b → Longer b c → Longer a c
+longer_on a b c h k = ((h.0.0 ++ k.0.0, k.0.1 ∙ (ap (λ l. l ++ k.0.0) h.0.1 ∙ append_assoc a.out.items h.0.0 k.0.0)), λ s. h.1 (k.1 s))
+
+pub longer_keeps : (a b : Appender) → Longer a b → b.spoiled ≡ false → a.spoiled ≡ false
+longer_keeps a b h s = h.1 s
+
+pub longer_adds : (a b : Appender) (x : List ℕ) → Appends a x b → Longer a b
+longer_adds a b x h = h.longer
+
+pub longer_inside : (e : Bool) (k : HeaderKind) (o : Opened) (a b : Appender) (x : List ℕ) → Inside a e k o b x → Longer a b
+longer_inside e k o a b x h = h.longer
+
+pub appends_chain : (a b c : Appender) (x y : List ℕ) → Appends a x b → Appends b y c → Appends a (x ++ y) c
+appends_chain a b c x y h k = record {
+  longer = longer_on a b c h.longer k.longer;
+  out = λ s. k.out s ∙ (ap (λ l. l ++ y) (h.out (k.longer.1 s)) ∙ append_assoc a.out.items x y);
+  few = k.few;
+}
+
+pub goes_inside : (e : Bool) (k : HeaderKind) (o : Opened) (a b c : Appender) (x y : List ℕ) → Inside a e k o b x → Appends b y c → Inside a e k o c (x ++ y)
+goes_inside e k o a b c x y h n = record {
+  longer = longer_on a b c h.longer n.longer;
+  out = λ s. n.out s ∙ (ap (λ l. l ++ y) (h.out (n.longer.1 s)) ∙ append_assoc (a.out.items ++ header e k o.count o.at) x y);
+  start = λ s. h.start (n.longer.1 s);
+}
+
+pub appends_bounded : (a b : Appender) (x : List ℕ) → Appends a x b → b.spoiled ≡ false → length x ≤ 18446744073709551615
+appends_bounded a b x h s = le_trans (subst (λ n. length x ≤ n) (sym (ap length (h.out s) ∙ length_append a.out.items x)) (le-add_left (length x) (length a.out.items))) h.few
+
+-- The number grew by this much, and is a number of 64 bits.
+pub record CountsTo (a : Counter) (n : ℕ) (b : Counter) : Type 0 where
+  pub len : b.len ≡ a.len + n
+  pub few : b.len ≤ 18446744073709551615
+
+abbrev pub Counts : Counter → List ℕ → Counter → Type 0
+Counts a bs b = CountsTo a (length bs) b
+
+-- A compound was opened, and this many bytes were counted since. Its header is counted at its end.
+pub record Counted (a : Counter) (e : Bool) (k : HeaderKind) (o : Opened) (b : Counter) (body : List ℕ) : Type 0 where
+  pub len : b.len ≡ a.len + length body
+  pub start : o.start ≡ a.len
+
+-- A counter returns to any number.
+abbrev pub Any : Counter → Counter → Type 0
+Any a b = Unit {0}
+
+abbrev pub CountMarks : Counter → Mark → Type 0
+CountMarks a m = m.len ≡ a.len
+
+pub counts_chain : (a b c : Counter) (x y : List ℕ) → Counts a x b → Counts b y c → Counts a (x ++ y) c
+counts_chain a b c x y h k = record { len = k.len ∙ (ap (λ n. n + length y) h.len ∙ (add_assoc a.len (length x) (length y) ∙ ap (λ n. a.len + n) (sym (length_append x y)))); few = k.few }
+
+pub counts_inside : (e : Bool) (k : HeaderKind) (o : Opened) (a b c : Counter) (x y : List ℕ) → Counted a e k o b x → Counts b y c → Counted a e k o c (x ++ y)
+counts_inside e k o a b c x y h n = record { len = n.len ∙ (ap (λ m. m + length y) h.len ∙ (add_assoc a.len (length x) (length y) ∙ ap (λ m. a.len + m) (sym (length_append x y)))); start = h.start }
+
+pub counts_bounded : (a b : Counter) (x : List ℕ) → Counts a x b → Unit {0} → length x ≤ 18446744073709551615
+counts_bounded a b x h s = le_trans (subst (λ n. length x ≤ n) (sym h.len) (le-add_left (length x) a.len)) h.few
+
+pub any : (a : Counter) → Any a a
+any a = tt
+
+pub any_on : (a b c : Counter) → Any a b → Any b c → Any a c
+any_on a b c h k = tt
+
+pub any_adds : (a b : Counter) (x : List ℕ) → Counts a x b → Any a b
+any_adds a b x h = tt
+
+pub any_within : (e : Bool) (k : HeaderKind) (o : Opened) (a b : Counter) (x : List ℕ) → Counted a e k o b x → Any a b
+any_within e k o a b x h = tt
+
+pub any_keeps : (a b : Counter) → Any a b → Unit {0} → Unit {0}
+any_keeps a b h s = tt

@@ -1,0 +1,190 @@
+//! A sink that appends bytes to a buffer whose capacity is allocated in advance.
+//!
+//! If the capacity or a hint does not fit, the buffer is spoiled until the sink returns to a mark.
+//! A spoiled buffer accepts the same values as before, so both passes refuse at the same calls.
+
+ghost use Rattle.std.specs.Prelude.{◌≡◌, ◌≤◌, ◌++◌, ◌∷◌, true, false, length};
+
+use crate::header::{long_header, short_header};
+use crate::hints::Hints;
+use crate::sink::{HeaderKind, Mark, Opened, Sink};
+use amqp_pass::width::{MAX_COUNT, MAX_LEN};
+use amqp_ser::Whole;
+
+/// Appends bytes within the capacity of a buffer, with hints.
+#[derive(Drop)]
+pub struct Appender {
+    /// The hints.
+    pub hints: Hints,
+    /// The buffer.
+    pub out: Vec<u8>,
+    /// Whether bytes are missing, since the capacity or a hint did not fit.
+    pub spoiled: bool,
+}
+
+impl Appender {
+    ghost use Rattle.std.specs.Prelude.{◌+◌};
+    ghost use Rattle.amqp_wire.specs.Forms.{Appends, header};
+
+    /// Creates an appender.
+    #[inline(always)]
+    pub fn new(hints: Hints, out: Vec<u8>) -> Appender
+        ensures out { result.out ≡ out }
+        ensures spoiled { result.spoiled ≡ false }
+    {
+        Appender {
+            hints,
+            out,
+            spoiled: false,
+        }
+    }
+
+    /// Appends a few bytes.
+    #[inline(always)]
+    fn put(&mut self, bytes: &[u8])
+        ensures { Appends self.old bytes.now self.new }
+    {
+        if bytes.len() > self.out.capacity() - self.out.len() {
+            self.spoiled = true;
+            return;
+        }
+        for byte in bytes {
+            self.out.push_reserved(*byte);
+        }
+    }
+
+    /// Appends a header for `count` parts of `len` bytes.
+    #[inline(always)]
+    fn header(&mut self, element: bool, kind: HeaderKind, len: u32, count: u32)
+        ensures { Appends self.old (header element kind count len) self.new }
+    {
+        if let Some(bytes) = short_header(element, kind, len, count) {
+            return self.put(&bytes);
+        }
+        match long_header(element, kind, len, count) {
+            Some(bytes) => self.put(&bytes.bytes[..bytes.len]),
+            None => self.spoiled = true,
+        }
+    }
+
+    /// Returns whether a compound has the length and the count of its hint.
+    #[inline(always)]
+    fn fits_hint(&self, opened: Opened, count: usize) -> bool
+        ensures at { result ≡ true → opened.at + opened.start ≡ length self.now.out.items }
+        ensures count { result ≡ true → count ≡ opened.count }
+        ensures fits { result ≡ true → opened.at ≤ 4294967291 }
+        ensures few { result ≡ true → count ≤ 4294967295 }
+    {
+        if self.out.len() < opened.start {
+            return false;
+        }
+        if self.out.len() - opened.start != opened.at {
+            return false;
+        }
+        count == opened.count && opened.at <= MAX_LEN && count <= MAX_COUNT
+    }
+}
+
+impl Sink for Appender {
+    ghost use Rattle.amqp_wire.specs.Forms.{Appends, Inside, Longer, OutMarks, appends_chain, goes_inside, appends_bounded, longer_keeps, longer_self, longer_on, longer_adds, longer_inside};
+
+    ghost adds = { Appends };
+
+    ghost within = { Inside };
+
+    ghost extends = { Longer };
+
+    ghost marks = { OutMarks };
+
+    ghost reads = { record { ranges = false; sound = λ a. a.spoiled ≡ false } };
+
+    ghost keeps = { longer_keeps };
+
+    ghost chains = { appends_chain };
+
+    ghost goes_on = { goes_inside };
+
+    ghost bounded = { appends_bounded };
+
+    ghost stays = { longer_self };
+
+    ghost extends_on = { longer_on };
+
+    ghost longer = { longer_adds };
+
+    ghost longer_within = { longer_inside };
+
+    #[inline(always)]
+    fn rest(&mut self) {}
+
+    #[inline(always)]
+    fn few(&mut self, bytes: &[u8]) -> bool {
+        self.put(bytes);
+        true
+    }
+
+    #[inline(always)]
+    fn bytes(&mut self, bytes: &[u8]) -> bool {
+        if bytes.len() > self.out.capacity() - self.out.len() {
+            self.spoiled = true;
+            return true;
+        }
+        match self.out.extend_from_slice(bytes) {
+            Ok(()) => true,
+            Err(_) => {
+                self.spoiled = true;
+                true
+            }
+        }
+    }
+
+    #[inline(always)]
+    fn open(&mut self, element: bool, kind: HeaderKind) -> Opened {
+        let Some(header) = self.hints.next() else {
+            self.spoiled = true;
+            return Opened {
+                start: self.out.len(),
+                at: 0,
+                count: 0,
+            };
+        };
+        self.header(element, kind, header.len, header.count);
+        Opened {
+            start: self.out.len(),
+            at: header.len as usize,
+            count: header.count as usize,
+        }
+    }
+
+    #[tactic(auto, using(crate::proofs::FormLemmas::closed_out, crate::proofs::FormLemmas::spoiled_out))]
+    #[inline(always)]
+    fn close(&mut self, _element: bool, _kind: HeaderKind, opened: Opened, count: usize) -> bool {
+        if self.fits_hint(opened, count) {
+            return true;
+        }
+        self.spoiled = true;
+        true
+    }
+
+    #[inline(always)]
+    fn whole<W: Whole>(&mut self, whole: &W) -> bool {
+        self.hints.write_whole(whole, &mut self.out)
+    }
+
+    #[inline(always)]
+    fn mark(&self) -> Mark {
+        Mark {
+            len: self.out.len(),
+            hints: self.hints.taken(),
+            spoiled: self.spoiled,
+        }
+    }
+
+    #[tactic(auto, using(crate::proofs::FormLemmas::restored_out))]
+    #[inline(always)]
+    fn restore(&mut self, mark: Mark) {
+        self.out.truncate(mark.len);
+        self.hints.return_to(mark.hints);
+        self.spoiled = mark.spoiled;
+    }
+}

@@ -1,0 +1,215 @@
+//! A pass over a value that may give up.
+
+ghost use Rattle.std.specs.Prelude.{◌≡◌, ◌++◌, ◌∷◌, [], List, ℕ, Some, Result, MatchResult, IfSome, true, length};
+ghost use Rattle.std.specs.Int.{w32, to_be_bytes};
+ghost use Rattle.amqp_ser.specs.Tree.{Scalar, scalar, binary};
+ghost use Rattle.amqp_ser.specs.Limits.{fits};
+ghost use Rattle.amqp_ser.specs.Ranged.{AreBytes, IsRangedScalar};
+ghost use Rattle.amqp_ser.specs.Scalars.{scalar_code, scalar_form, scalar_payload, sized};
+ghost use Rattle.amqp_ser.specs.Writable.{scalar_fits};
+ghost use Rattle.amqp_pass.specs.MarkedBytes.{marked_bytes};
+ghost use Rattle.amqp_wire.specs.Places.{is_element, Admits, IsOrdinary, Led};
+
+use crate::place::{Place, is_descriptor_code};
+use crate::put::{put_exact, put_number, put_text};
+use crate::sink::{HeaderKind, Opened, Sink};
+use amqp_frame::is_frame;
+use amqp_pass::{ScalarEncoding, ScalarMarker};
+use amqp_ser::Marker;
+
+/// The pass gave up on a value. A serializer then finds the error.
+#[derive(Clone, Copy, Debug)]
+pub struct GaveUp;
+
+/// A pass over a value, which puts its encoding into a sink.
+#[derive(Drop)]
+pub struct Pass<K> {
+    /// What receives the bytes.
+    pub sink: K,
+    pub(crate) place: Place,
+    /// The pending marker; `None` if no value is accepted.
+    pub(crate) marker: Option<Marker>,
+    /// Whether the parts of a compound may be added whole. It is false after a value that was not
+    /// added whole: its parts were part of that attempt.
+    pub(crate) tries_parts: bool,
+}
+
+/// Returns an error if nothing was put.
+#[inline(always)]
+pub(crate) fn done(put: bool) -> Result<(), GaveUp>
+    ensures { MatchResult result (λ _. put ≡ true) (λ _. Unit {0}) }
+{
+    if put { Ok(()) } else { Err(GaveUp) }
+}
+
+impl<K: Sink> Pass<K> {
+    ghost use Rattle.amqp_wire.specs.Gives.{Gave, puts};
+    ghost use Rattle.amqp_wire.specs.ScalarForms.{HasForms};
+    ghost use Rattle.amqp_ser.specs.Marked.{with_marker};
+
+    /// Creates a pass at the root.
+    #[inline(always)]
+    pub fn new(sink: K) -> Pass<K>
+        ensures sink { result.sink ≡ sink }
+        ensures place { result.place ≡ Place.Root }
+        ensures marker { result.marker ≡ Some Marker.Other }
+    {
+        Pass {
+            sink,
+            place: Place::Root,
+            marker: Some(Marker::Other),
+            tries_parts: true,
+        }
+    }
+
+    /// Returns the sink.
+    #[inline(always)]
+    pub fn into_sink(self) -> K
+        ensures { result ≡ self.sink }
+    {
+        let Pass {
+            sink,
+            place: _,
+            marker: _,
+            tries_parts: _,
+        } = self;
+        sink
+    }
+
+    /// Returns whether a value with this constructor may be here. Puts the constructor before the
+    /// first element of an array.
+    #[inline(always)]
+    pub(crate) fn admit(&mut self, code: u8) -> bool
+        ensures grown { K.extends self.old.sink self.new.sink }
+        ensures admitted { result ≡ true → Admits self.old.place code self.new.place }
+        ensures led { result ≡ true →
+            Led K.adds self.old.place code self.old.sink self.new.sink }
+    {
+        match self.place {
+            Place::Root => true,
+            Place::Inside => true,
+            Place::Descriptor => is_descriptor_code(code),
+            Place::First => {
+                self.place = Place::Element(code);
+                self.sink.few(&[code])
+            }
+            Place::Element(constructor) => constructor == code,
+        }
+    }
+
+    /// Puts a number.
+    #[inline(always)]
+    pub(crate) fn number(&mut self, in_array: ScalarEncoding, ordinary: ScalarEncoding) -> bool
+        ensures grown { K.extends self.old.sink self.new.sink }
+        ensures gave { result ≡ true → (x : Scalar) → HasForms in_array ordinary x →
+            Gave K.adds K.reads self.old.sink self.old.place (scalar x) self.new.sink self.new.place }
+    {
+        let element = self.place.is_element();
+        if !self.admit(in_array.code) {
+            return false;
+        }
+        put_number(&mut self.sink, element, in_array, ordinary)
+    }
+
+    /// Puts a text or a binary.
+    #[tactic(auto, using(crate::proofs::Given::text_gave))]
+    #[inline(always)]
+    pub(crate) fn text(&mut self, short: u8, long: u8, bytes: &[u8]) -> bool
+        ensures grown { K.extends self.old.sink self.new.sink }
+        ensures gave { result ≡ true → (x : Scalar) → scalar_code x ≡ long →
+            scalar_form x ≡ sized short long bytes.now →
+            scalar_payload x ≡ to_be_bytes w32 (length bytes.now) ++ bytes.now →
+            scalar_fits x ≡ fits (length bytes.now) → IsRangedScalar x →
+            Gave K.adds K.reads self.old.sink self.old.place (scalar x) self.new.sink self.new.place }
+    {
+        let element = self.place.is_element();
+        if !self.admit(long) {
+            return false;
+        }
+        put_text(&mut self.sink, element, short, long, bytes)
+    }
+
+    /// Puts a scalar of these bytes.
+    #[tactic(auto, using(crate::proofs::Given::exact_gave))]
+    #[inline(always)]
+    pub(crate) fn exact(&mut self, code: u8, bytes: &[u8]) -> bool
+        ensures grown { K.extends self.old.sink self.new.sink }
+        ensures gave { result ≡ true → (x : Scalar) → scalar_code x ≡ code →
+            scalar_form x ≡ code ∷ bytes.now → scalar_payload x ≡ bytes.now →
+            scalar_fits x ≡ true → IsRangedScalar x →
+            Gave K.adds K.reads self.old.sink self.old.place (scalar x) self.new.sink self.new.place }
+    {
+        let element = self.place.is_element();
+        if !self.admit(code) {
+            return false;
+        }
+        put_exact(&mut self.sink, element, code, bytes)
+    }
+
+    /// Puts a decimal or a uuid.
+    #[tactic(auto, using(crate::proofs::Given::marked_gave))]
+    #[inline(always)]
+    pub(crate) fn marked(&mut self, marker: ScalarMarker, bytes: &[u8]) -> bool
+        ensures grown { K.extends self.old.sink self.new.sink }
+        ensures gave { result ≡ true → puts K.adds K.reads self.old.sink self.old.place
+            (marked_bytes marker bytes.now) self.new.sink self.new.place }
+    {
+        match marker.exact_code(bytes) {
+            Some(code) => self.exact(code, bytes),
+            None => false,
+        }
+    }
+
+    /// Puts a value that is encoded already.
+    #[tactic(auto, using(crate::proofs::Given::lazy_gave))]
+    #[inline(never)]
+    pub(crate) fn lazy(&mut self, bytes: &[u8]) -> bool
+        ensures grown { K.extends self.old.sink self.new.sink }
+        ensures gave { result ≡ true → AreBytes bytes.now →
+            puts K.adds K.reads self.old.sink self.old.place
+            (with_marker Marker.Lazy (Some (scalar (binary bytes.now)))) self.new.sink
+            self.new.place }
+    {
+        if !is_frame(bytes) {
+            return false;
+        }
+        match self.place {
+            Place::Root => self.sink.bytes(bytes),
+            Place::Inside => self.sink.bytes(bytes),
+            _ => false,
+        }
+    }
+
+    /// Returns whether a value is added whole here: it has its ordinary form, and it is no part of a
+    /// value that was not added whole.
+    #[inline(always)]
+    pub(crate) fn takes_whole(&self) -> bool
+        ensures marker { result ≡ true → self.now.marker ≡ Some Marker.Other }
+        ensures place { result ≡ true → IsOrdinary self.now.place }
+    {
+        match self.marker {
+            Some(Marker::Other) => match self.place {
+                Place::Root => true,
+                Place::Inside => self.tries_parts,
+                _ => false,
+            },
+            _ => false,
+        }
+    }
+
+    /// Opens a compound with this constructor.
+    #[inline(always)]
+    pub(crate) fn open_at(&mut self, code: u8, kind: HeaderKind) -> Option<Opened>
+        ensures grown { K.extends self.old.sink self.new.sink }
+        ensures admitted { IfSome result (λ _. Admits self.old.place code self.new.place) }
+        ensures opened { IfSome result (λ o. (m : K)
+            × (Led K.adds self.old.place code self.old.sink m
+            × K.within m (is_element self.old.place) kind o self.new.sink [])) }
+    {
+        let element = self.place.is_element();
+        if !self.admit(code) {
+            return None;
+        }
+        Some(self.sink.open(element, kind))
+    }
+}

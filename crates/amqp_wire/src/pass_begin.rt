@@ -1,0 +1,196 @@
+//! Opens and closes the compounds of a pass.
+
+ghost use Rattle.std.specs.Prelude.{◌≡◌, ◌++◌, [], List, ℕ, Bool, Some, true, false, length};
+ghost use Rattle.amqp_ser.specs.Tree.{uint, no_trees};
+ghost use Rattle.amqp_ser.specs.Scalars.{scalar_form};
+ghost use Rattle.amqp_ser.specs.Limits.{fits};
+ghost use Rattle.amqp_wire.specs.Forms.{form};
+ghost use Rattle.amqp_wire.specs.Gives.{HasHeader, header_of, code_of, inner};
+ghost use Rattle.amqp_wire.specs.Places.{is_element};
+
+use crate::pass::Pass;
+use crate::pass_compound::{NO_HEADER, PassCompound};
+use crate::place::Place;
+use crate::put::put_index;
+use crate::sink::{HeaderKind, Opened, Sink};
+use amqp_data::EncodingCodes;
+use amqp_pass::ResolvedKind;
+use amqp_ser::{CompoundKind, Marker};
+
+/// Returns whether a compound is a list, a map or an array.
+#[inline(always)]
+pub(crate) fn has_header(kind: ResolvedKind) -> bool
+    ensures { result ≡ true → HasHeader kind }
+{
+    match kind {
+        ResolvedKind::List => true,
+        ResolvedKind::Map => true,
+        ResolvedKind::Array => true,
+        _ => false,
+    }
+}
+
+/// Returns the kind of the header of a list, a map or an array.
+#[inline(always)]
+pub(crate) fn header_of(kind: ResolvedKind) -> HeaderKind
+    ensures { result ≡ header_of kind }
+{
+    match kind {
+        ResolvedKind::Map => HeaderKind::Map,
+        ResolvedKind::Array => HeaderKind::Array,
+        ResolvedKind::List => HeaderKind::List,
+        ResolvedKind::Variant(_) => HeaderKind::Map,
+        ResolvedKind::NewtypeVariant(_) => HeaderKind::Map,
+        ResolvedKind::Transparent => HeaderKind::List,
+        ResolvedKind::Single => HeaderKind::List,
+        ResolvedKind::Refused => HeaderKind::List,
+    }
+}
+
+/// Returns the constructor of a list, a map or an array.
+#[inline(always)]
+fn constructor_of(kind: ResolvedKind) -> u8
+    ensures { HasHeader kind → result ≡ code_of kind }
+{
+    match kind {
+        ResolvedKind::Map => EncodingCodes::Map32 as u8,
+        ResolvedKind::Array => EncodingCodes::Array32 as u8,
+        _ => EncodingCodes::List32 as u8,
+    }
+}
+
+/// Returns the place of the first part.
+#[inline(always)]
+fn first_place(kind: ResolvedKind) -> Place
+    ensures { HasHeader kind → result ≡ inner kind no_trees }
+{
+    match kind {
+        ResolvedKind::Array => Place::First,
+        _ => Place::Inside,
+    }
+}
+
+impl<K: Sink> Pass<K> {
+    ghost use Rattle.amqp_wire.specs.Gives.{Has, kind_of, marker_of};
+    ghost use Rattle.amqp_ser.specs.declared.kind.CompoundKind.{CompoundKind};
+
+    /// Opens a single compound.
+    #[inline(always)]
+    pub(crate) fn begin_single(&mut self) -> PassCompound
+        ensures { Has K.adds K.reads K.within K.extends K.marks self.old CompoundKind.Single self.new
+            result [] }
+    {
+        self.sink.rest();
+        PassCompound::single(self.place, self.marker)
+    }
+
+    /// Opens a list, a map or an array.
+    #[tactic(auto, using(crate::proofs::Beginning::headed_begun))]
+    #[inline(always)]
+    pub(crate) fn begin_headed(&mut self, kind: ResolvedKind) -> PassCompound
+        ensures { HasHeader kind → self.old.marker ≡ Some (marker_of kind) →
+            Has K.adds K.reads K.within K.extends K.marks self.old (kind_of kind) self.new result [] }
+    {
+        match self.open_at(constructor_of(kind), header_of(kind)) {
+            Some(opened) => {
+                PassCompound::open(kind, NO_HEADER, opened, first_place(kind), self.place)
+            }
+            None => PassCompound::refused(),
+        }
+    }
+
+    /// Opens a transparent vector, which only the root accepts.
+    #[tactic(auto, using(crate::proofs::Beginning::transparent_begun))]
+    #[inline(always)]
+    pub(crate) fn begin_transparent(&mut self) -> PassCompound
+        ensures { self.old.marker ≡ Some Marker.Transparent →
+            Has K.adds K.reads K.within K.extends K.marks self.old CompoundKind.List self.new result [] }
+    {
+        match self.place {
+            Place::Root => {
+                self.sink.rest();
+                PassCompound::open(
+                    ResolvedKind::Transparent,
+                    NO_HEADER,
+                    NO_HEADER,
+                    Place::Root,
+                    Place::Root,
+                )
+            }
+            _ => PassCompound::refused(),
+        }
+    }
+
+    /// Opens a variant of one value.
+    #[tactic(auto, using(crate::proofs::Beginning::newtype_variant_begun))]
+    #[inline(never)]
+    pub(crate) fn begin_newtype_variant(&mut self, index: u32) -> PassCompound
+        ensures { self.old.marker ≡ Some Marker.Other →
+            Has K.adds K.reads K.within K.extends K.marks self.old (CompoundKind.NewtypeVariant index)
+            self.new result [] }
+    {
+        let Some(outer) = self.open_at(EncodingCodes::Map32 as u8, HeaderKind::Map) else {
+            return PassCompound::refused();
+        };
+        if !put_index(&mut self.sink, index) {
+            return PassCompound::refused();
+        }
+        PassCompound::open(
+            ResolvedKind::NewtypeVariant(index),
+            outer,
+            NO_HEADER,
+            Place::Inside,
+            self.place,
+        )
+    }
+
+    /// Opens a variant of a list of fields.
+    #[tactic(auto, using(crate::proofs::Beginning::variant_begun))]
+    #[inline(never)]
+    pub(crate) fn begin_variant(&mut self, index: u32) -> PassCompound
+        ensures { self.old.marker ≡ Some Marker.Other →
+            Has K.adds K.reads K.within K.extends K.marks self.old (CompoundKind.Variant index)
+            self.new result [] }
+    {
+        let Some(outer) = self.open_at(EncodingCodes::Map32 as u8, HeaderKind::Map) else {
+            return PassCompound::refused();
+        };
+        if !put_index(&mut self.sink, index) {
+            return PassCompound::refused();
+        }
+        let opened = self.sink.open(false, HeaderKind::List);
+        PassCompound::open(
+            ResolvedKind::Variant(index),
+            outer,
+            opened,
+            Place::Inside,
+            self.place,
+        )
+    }
+
+    /// Closes the list of the fields of a variant, and then its map.
+    #[inline(never)]
+    pub(crate) fn close_variant(&mut self, compound: &PassCompound) -> bool
+        ensures grown { K.extends self.old.sink self.new.sink }
+        ensures place { self.new.place ≡ self.old.place }
+        ensures put { (start mid : K) (e : Bool) (index body : List ℕ) →
+            e ≡ is_element compound.now.after →
+            K.within start e HeaderKind.Map compound.now.outer mid index →
+            K.within mid false HeaderKind.List compound.now.opened self.old.sink body →
+            result ≡ true →
+            (K.reads.sound self.new.sink → (fits (length body) ≡ true)
+            × (fits (length (index ++ form false HeaderKind.List compound.now.count body)) ≡ true))
+            × K.adds start (form e HeaderKind.Map 2
+            (index ++ form false HeaderKind.List compound.now.count body)) self.new.sink }
+    {
+        let count = compound.count;
+        if !self
+            .sink
+            .close(false, HeaderKind::List, compound.opened, count)
+        {
+            return false;
+        }
+        let element = compound.after.is_element();
+        self.sink.close(element, HeaderKind::Map, compound.outer, 2)
+    }
+}

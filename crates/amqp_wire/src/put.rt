@@ -1,0 +1,144 @@
+//! The bytes of scalars, put into a sink.
+
+ghost use Rattle.std.specs.Prelude.{◌≡◌, ◌≤◌, ◌++◌, ◌∷◌, [], true, length, if◌then◌else◌};
+ghost use Rattle.std.specs.Int.{w32, to_be_bytes};
+ghost use Rattle.amqp_ser.specs.Limits.{fits, is_short};
+ghost use Rattle.amqp_ser.specs.Scalars.{scalar_form, sized};
+ghost use Rattle.amqp_ser.specs.Tree.{uint};
+ghost use Rattle.amqp_pass.specs.ScalarEncoding.{form_bytes, form_payload};
+ghost use Rattle.amqp_wire.specs.Places.{pick};
+
+use crate::sink::Sink;
+use amqp_pass::ScalarEncoding;
+use amqp_pass::width::MAX_LEN;
+use amqp_ser::Fixed;
+
+/// Puts a format code and a number.
+#[inline(always)]
+fn put_form<K: Sink>(sink: &mut K, form: ScalarEncoding) -> bool
+    ensures grown { K.extends sink.old sink.new }
+    ensures put { result ≡ true → K.adds sink.old (form_bytes form) sink.new }
+{
+    let [a, b, c, d, e, f, g, h] = form.bits.to_be_bytes();
+    match form.width {
+        0 => sink.few(&[form.code]),
+        1 => sink.few(&[form.code, h]),
+        2 => sink.few(&[form.code, g, h]),
+        4 => sink.few(&[form.code, e, f, g, h]),
+        8 => sink.few(&[form.code, a, b, c, d, e, f, g, h]),
+        _ => false,
+    }
+}
+
+/// Puts a number.
+#[inline(always)]
+fn put_payload<K: Sink>(sink: &mut K, form: ScalarEncoding) -> bool
+    ensures grown { K.extends sink.old sink.new }
+    ensures put { result ≡ true → K.adds sink.old (form_payload form) sink.new }
+{
+    let [a, b, c, d, e, f, g, h] = form.bits.to_be_bytes();
+    match form.width {
+        0 => sink.few(&[]),
+        1 => sink.few(&[h]),
+        2 => sink.few(&[g, h]),
+        4 => sink.few(&[e, f, g, h]),
+        8 => sink.few(&[a, b, c, d, e, f, g, h]),
+        _ => false,
+    }
+}
+
+/// Puts a number, which has one form in an array and another elsewhere.
+#[inline(always)]
+pub(crate) fn put_number<K: Sink>(
+    sink: &mut K,
+    element: bool,
+    in_array: ScalarEncoding,
+    ordinary: ScalarEncoding,
+) -> bool
+    ensures grown { K.extends sink.old sink.new }
+    ensures put { result ≡ true → K.adds sink.old
+        (pick element (form_bytes ordinary) (form_payload in_array)) sink.new }
+{
+    if element {
+        put_payload(sink, in_array)
+    } else {
+        put_form(sink, ordinary)
+    }
+}
+
+/// Puts the index of a variant.
+#[inline(never)]
+pub(crate) fn put_index<K: Sink>(sink: &mut K, index: u32) -> bool
+    ensures grown { K.extends sink.old sink.new }
+    ensures put { result ≡ true → K.adds sink.old (scalar_form (uint index)) sink.new }
+{
+    put_form(sink, ScalarEncoding::ordinary(Fixed::Uint(index)))
+}
+
+/// Puts bytes after other bytes.
+#[inline(always)]
+fn put_both<K: Sink>(sink: &mut K, few: &[u8], bytes: &[u8]) -> bool
+    ensures grown { K.extends sink.old sink.new }
+    ensures put { result ≡ true → K.adds sink.old (few.now ++ bytes.now) sink.new }
+{
+    if !sink.few(few) {
+        return false;
+    }
+    sink.bytes(bytes)
+}
+
+/// Puts the length of a text or a binary: of one byte after the code `short`, or of four bytes after
+/// the code `long`. In an array there is no code.
+#[inline(always)]
+fn put_len<K: Sink>(sink: &mut K, element: bool, short: u8, long: u8, n: u32) -> bool
+    ensures grown { K.extends sink.old sink.new }
+    ensures put { result ≡ true → K.adds sink.old (pick element
+        (if is_short n then short ∷ n ∷ [] else long ∷ to_be_bytes w32 n) (to_be_bytes w32 n))
+        sink.new }
+{
+    if element {
+        return sink.few(&n.to_be_bytes());
+    }
+    if n <= 254 {
+        return sink.few(&[short, n as u8]);
+    }
+    let [a, b, c, d] = n.to_be_bytes();
+    sink.few(&[long, a, b, c, d])
+}
+
+/// Puts a text or a binary after its length.
+#[inline(always)]
+pub(crate) fn put_text<K: Sink>(
+    sink: &mut K,
+    element: bool,
+    short: u8,
+    long: u8,
+    bytes: &[u8],
+) -> bool
+    ensures grown { K.extends sink.old sink.new }
+    ensures fits { result ≡ true → fits (length bytes.now) ≡ true }
+    ensures put { result ≡ true → K.adds sink.old (pick element (sized short long bytes.now)
+        (to_be_bytes w32 (length bytes.now) ++ bytes.now)) sink.new }
+{
+    let n = bytes.len();
+    if n > MAX_LEN {
+        return false;
+    }
+    if !put_len(sink, element, short, long, n as u32) {
+        return false;
+    }
+    sink.bytes(bytes)
+}
+
+/// Puts a code and bytes. In an array there is no code.
+#[inline(always)]
+pub(crate) fn put_exact<K: Sink>(sink: &mut K, element: bool, code: u8, bytes: &[u8]) -> bool
+    ensures grown { K.extends sink.old sink.new }
+    ensures put { result ≡ true → K.adds sink.old (pick element (code ∷ bytes.now) bytes.now)
+        sink.new }
+{
+    if element {
+        return sink.bytes(bytes);
+    }
+    put_both(sink, &[code], bytes)
+}

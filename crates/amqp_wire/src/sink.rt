@@ -1,0 +1,139 @@
+//! What a pass does with the bytes of an encoding: it counts them, or appends them to a buffer.
+
+ghost use Rattle.std.specs.Prelude.{◌≡◌, ◌≤◌, ◌++◌, [], List, ℕ, Bool, true, length};
+ghost use Rattle.amqp_ser.specs.Limits.{fits, is_count};
+ghost use Rattle.amqp_ser.specs.Encoding.{encoding};
+ghost use Rattle.amqp_ser.specs.Ranged.{IsRanged};
+ghost use Rattle.amqp_ser.specs.Writable.{within_limits, uniform_arrays, inside};
+ghost use Rattle.amqp_wire.specs.Forms.{form};
+ghost use Rattle.amqp_wire.specs.When.{Promises, When};
+
+use amqp_ser::Whole;
+
+/// The kind of a header, which determines its format codes.
+#[derive(Clone, Copy, Debug)]
+pub enum HeaderKind {
+    /// The codes of lists.
+    List,
+    /// The codes of maps.
+    Map,
+    /// The codes of arrays.
+    Array,
+}
+
+/// A compound whose parts are counted or appended.
+#[derive(Clone, Copy, Debug)]
+pub struct Opened {
+    /// The length before the first part.
+    pub start: usize,
+    /// The slot of its hint, or the length of its parts according to the hint.
+    pub at: usize,
+    /// The number of its parts according to the hint.
+    pub count: usize,
+}
+
+/// A position of a sink, to which it can return.
+#[derive(Clone, Copy, Debug)]
+pub struct Mark {
+    /// The number of bytes.
+    pub len: usize,
+    /// The number of hints.
+    pub hints: usize,
+    /// Whether bytes that were added are missing.
+    pub spoiled: bool,
+}
+
+/// Counts or appends bytes.
+pub trait Sink: Drop {
+    ghost use Rattle.amqp_wire.specs.declared.sink.HeaderKind.{HeaderKind};
+    ghost use Rattle.amqp_wire.specs.declared.sink.Opened.{Opened};
+    ghost use Rattle.amqp_wire.specs.declared.sink.Mark.{Mark};
+
+    /// The bytes were added to the first sink, which gave the second one.
+    ghost adds: { Self → List ℕ → Self → Type 0 };
+
+    /// The compound was opened in the first sink, as an array element or not, and these bytes of
+    /// parts were added since.
+    ghost within: { Self → Bool → HeaderKind → Opened → Self → List ℕ → Type 0 };
+
+    /// The second sink has the bytes of the first one, and then others.
+    ghost extends: { Self → Self → Type 0 };
+
+    /// The position of the sink.
+    ghost marks: { Self → Mark → Type 0 };
+
+    /// What is promised of the values that are added: whether they are in range, and which sinks
+    /// have all bytes.
+    ghost reads: { Promises Self };
+
+    /// Bytes after bytes.
+    ghost chains: { (a b c : Self) (x y : List ℕ) → adds a x b → adds b y c → adds a (x ++ y) c };
+
+    /// Bytes after bytes of parts.
+    ghost goes_on: { (e : Bool) (k : HeaderKind) (o : Opened) (a b c : Self) (x y : List ℕ) →
+        within a e k o b x → adds b y c → within a e k o c (x ++ y) };
+
+    /// No more bytes than a number can count.
+    ghost bounded: { (a b : Self) (x : List ℕ) → adds a x b → reads.sound b →
+        length x ≤ 18446744073709551615 };
+
+    /// A sink that extends one with bytes missing has bytes missing.
+    ghost keeps: { (a b : Self) → extends a b → reads.sound b → reads.sound a };
+
+    /// A sink extends itself.
+    ghost stays: { (a : Self) → extends a a };
+
+    /// What extends an extension extends the first sink.
+    ghost extends_on: { (a b c : Self) → extends a b → extends b c → extends a c };
+
+    /// Added bytes extend a sink.
+    ghost longer: { (a b : Self) (x : List ℕ) → adds a x b → extends a b };
+
+    /// A compound extends a sink.
+    ghost longer_within: { (e : Bool) (k : HeaderKind) (o : Opened) (a b : Self) (x : List ℕ) →
+        within a e k o b x → extends a b };
+
+    /// Adds no bytes.
+    fn rest(&mut self)
+        ensures { adds self.old [] self.new };
+
+    /// Adds few bytes.
+    fn few(&mut self, bytes: &[u8]) -> bool
+        ensures grown { extends self.old self.new }
+        ensures put { result ≡ true → adds self.old bytes.now self.new };
+
+    /// Adds bytes.
+    fn bytes(&mut self, bytes: &[u8]) -> bool
+        ensures grown { extends self.old self.new }
+        ensures put { result ≡ true → adds self.old bytes.now self.new };
+
+    /// Begins a compound.
+    fn open(&mut self, element: bool, kind: HeaderKind) -> Opened
+        ensures grown { extends self.old self.new }
+        ensures opened { within self.old element kind result self.new [] };
+
+    /// Ends a compound of `count` parts.
+    fn close(&mut self, element: bool, kind: HeaderKind, opened: Opened, count: usize) -> bool
+        ensures grown { extends self.old self.new }
+        ensures put { (start : Self) (body : List ℕ) →
+            within start element kind opened self.old body → result ≡ true →
+            (reads.sound self.new → (fits (length body) ≡ true) × (is_count count ≡ true))
+            × adds start (form element kind count body) self.new };
+
+    /// Adds a value without its parts being added one by one, or fails.
+    fn whole<W: Whole>(&mut self, whole: &W) -> bool
+        ensures grown { extends self.old self.new }
+        ensures put { result ≡ true → (within_limits (W.whole_tree whole.now) ≡ true)
+            × ((uniform_arrays (W.whole_tree whole.now) ≡ true)
+            × ((inside (W.whole_tree whole.now) ≡ true)
+            × adds self.old (encoding (W.whole_tree whole.now)) self.new)) }
+        ensures ranged { result ≡ true → When reads.ranges (IsRanged (W.whole_tree whole.now)) };
+
+    /// Returns the position.
+    fn mark(&self) -> Mark
+        ensures { marks self.now result };
+
+    /// Returns to a position.
+    fn restore(&mut self, mark: Mark)
+        ensures { (a : Self) → marks a mark → extends a self.old → adds a [] self.new };
+}
