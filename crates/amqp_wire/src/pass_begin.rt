@@ -1,12 +1,11 @@
 //! Opens and closes the compounds of a pass.
 
-ghost use Rattle.std.specs.Prelude.{◌≡◌, ◌++◌, [], List, ℕ, Bool, Some, true, false, length};
+ghost use Rattle.std.specs.Prelude.{◌≡◌, ◌++◌, [], List, ℕ, Some, true, false, length};
 ghost use Rattle.amqp_ser.specs.Tree.{uint, no_trees};
 ghost use Rattle.amqp_ser.specs.Scalars.{scalar_form};
 ghost use Rattle.amqp_ser.specs.Limits.{fits};
 ghost use Rattle.amqp_wire.specs.Forms.{form};
 ghost use Rattle.amqp_wire.specs.Gives.{HasHeader, header_of, code_of, inner};
-ghost use Rattle.amqp_wire.specs.Places.{is_element};
 
 use crate::pass::Pass;
 use crate::pass_compound::{NO_HEADER, PassCompound};
@@ -170,27 +169,27 @@ impl<K: Sink> Pass<K> {
 
     /// Closes the list of the fields of a variant, and then its map.
     #[inline(never)]
-    pub(crate) fn close_variant(&mut self, compound: &PassCompound) -> bool
+    pub(crate) fn close_variant(
+        &mut self,
+        element: bool,
+        outer: Opened,
+        opened: Opened,
+        count: usize,
+    ) -> bool
         ensures grown { K.extends self.old.sink self.new.sink }
         ensures place { self.new.place ≡ self.old.place }
-        ensures put { (start mid : K) (e : Bool) (index body : List ℕ) →
-            e ≡ is_element compound.now.after →
-            K.within start e HeaderKind.Map compound.now.outer mid index →
-            K.within mid false HeaderKind.List compound.now.opened self.old.sink body →
+        ensures put { (start mid : K) (index body : List ℕ) →
+            K.within start element HeaderKind.Map outer mid index →
+            K.within mid false HeaderKind.List opened self.old.sink body →
             result ≡ true →
             (K.reads.sound self.new.sink → (fits (length body) ≡ true)
-            × (fits (length (index ++ form false HeaderKind.List compound.now.count body)) ≡ true))
-            × K.adds start (form e HeaderKind.Map 2
-            (index ++ form false HeaderKind.List compound.now.count body)) self.new.sink }
+            × (fits (length (index ++ form false HeaderKind.List count body)) ≡ true))
+            × K.adds start (form element HeaderKind.Map 2
+            (index ++ form false HeaderKind.List count body)) self.new.sink }
     {
-        let count = compound.count;
-        if !self
-            .sink
-            .close(false, HeaderKind::List, compound.opened, count)
-        {
+        if !self.sink.close(false, HeaderKind::List, opened, count) {
             return false;
         }
-        let element = compound.after.is_element();
-        self.sink.close(element, HeaderKind::Map, compound.outer, 2)
+        self.sink.close(element, HeaderKind::Map, outer, 2)
     }
 }

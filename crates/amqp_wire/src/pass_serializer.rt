@@ -211,7 +211,12 @@ impl<K: Sink> Serializer for Pass<K> {
             );
         }
         match compound.kind {
-            ResolvedKind::Variant(_) => done(self.close_variant(&compound)),
+            ResolvedKind::Variant(_) => done(self.close_variant(
+                element,
+                compound.outer,
+                compound.opened,
+                compound.count,
+            )),
             ResolvedKind::NewtypeVariant(_) => done(
                 self.sink.close(element, HeaderKind::Map, compound.outer, 2),
             ),

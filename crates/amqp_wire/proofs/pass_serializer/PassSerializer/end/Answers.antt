@@ -1,6 +1,7 @@
-use Rattle.std.proofs.Common.{◌≡◌, true, refl, sym, subst, length}
+use Rattle.std.proofs.Common.{◌≡◌, true, false, refl, sym, subst, length, ◌++◌, ◌∙◌}
 use Rattle.amqp_ser.specs.Limits.{fits, is_count}
 use Rattle.amqp_wire.specs.Forms.{form}
+use Rattle.amqp_wire.specs.declared.sink.HeaderKind.TheVariants as headers
 use Rattle.amqp_wire.specs.Gives.{class_of}
 use Rattle.amqp_wire.specs.Kept.{kept}
 use Rattle.amqp_wire.proofs.SinkLaws.{Laws, has_extends}
@@ -20,7 +21,12 @@ returns-in-NewtypeVariant g c =
 pub returns-in-Variant : goal.returns-in-Variant
 returns-in-Variant g c =
     let L : Laws g.K.Sink.adds g.K.Sink.reads g.K.Sink.within g.K.Sink.extends = record { chains = g.K.Sink.chains; goes_on = g.K.Sink.goes_on; bounded = g.K.Sink.bounded; keeps = g.K.Sink.keeps; stays = g.K.Sink.stays; on = g.K.Sink.extends_on; longer = g.K.Sink.longer; longer_within = g.K.Sink.longer_within } in
-    λ start kind ps h d. variant_ended g.K.Sink.adds g.K.Sink.reads g.K.Sink.within g.K.Sink.extends g.K.Sink.marks L c.in-Variant.field-0 start c.args.self.now c.close_variant.new.self c.args.compound kind ps c.close_variant.result c.done-in-Variant.result c.in-Variant.is c.close_variant.ensures.place h c.close_variant.ensures.grown c.close_variant.ensures.put c.done-in-Variant.ensures
+    λ start kind ps h d. variant_ended g.K.Sink.adds g.K.Sink.reads g.K.Sink.within g.K.Sink.extends g.K.Sink.marks L c.in-Variant.field-0 start c.args.self.now c.close_variant.new.self c.args.compound kind ps c.close_variant.result c.done-in-Variant.result c.in-Variant.is c.close_variant.ensures.place h c.close_variant.ensures.grown
+    (λ a mid e index body i v w p.
+    let same : e ≡ c.is_element-element.result = i ∙ sym c.is_element-element.ensures in
+    subst (λ x. (g.K.Sink.reads.sound c.close_variant.new.self.sink → (fits (length body) ≡ true) × (fits (length (index ++ form false headers.List c.args.compound.count body)) ≡ true)) × g.K.Sink.adds a (form x headers.Map 2 (index ++ form false headers.List c.args.compound.count body)) c.close_variant.new.self.sink) (sym same)
+    (c.close_variant.ensures.put a mid index body (subst (λ x. g.K.Sink.within a x headers.Map c.args.compound.outer mid index) same v) w p))
+    c.done-in-Variant.ensures
 
 pub returns-in-Transparent : goal.returns-in-Transparent
 returns-in-Transparent g c =
