@@ -31,6 +31,7 @@ pub(crate) fn error_of<T: Serialize>(value: &T) -> Error
 /// The serializer is created here, so that the compiler knows its place in a program that measures
 /// values of several types.
 #[tactic(auto, using(crate::proofs::Rooted::root_ranged))]
+#[inline]
 pub(crate) fn measure<T: Serialize>(hints: Hints, value: &T) -> (Option<usize>, Hints)
     ensures { IfSome result.0 (λ _. IsInRange (T.tree value.now)) }
 {
@@ -50,6 +51,7 @@ pub(crate) fn measure<T: Serialize>(hints: Hints, value: &T) -> (Option<usize>, 
 
 /// Appends the encoding within the capacity, and returns whether that succeeded.
 #[tactic(auto, using(crate::proofs::Rooted::root_written, crate::proofs::Rooted::root_longer))]
+#[inline]
 pub(crate) fn append_value<T: Serialize>(
     hints: Hints,
     out: Vec<u8>,
