@@ -32,7 +32,7 @@ REFUSED = "<out of memory>"
 HEADERS = 167
 # The requests that the calls of the rows of `read` make in one pass, and for the tables of headers of the lazy values that are read
 # and written on the way.
-ONE_PASS = 266
+ONE_PASS = 270
 # Of the rows of `read` whose type has an `OrderedMap`: one for each that is read from an untyped value.
 RESERVED = 7
 # Two for the hashes of each of two maps that are decoded. For each of the four calls of the rows of `read`: two for the hashes of each
