@@ -1,4 +1,5 @@
-"""Checks functions of a crate without proving the others: a lemma with a hole stands for the proof of each of those, which are taken by their contracts.
+"""Checks functions of a crate without proving the others, which are taken by their contracts: a lemma with a hole stands for the proof of each of those, and
+an endless loop for its body.
 
 A check needs the rlibs of the crates below, which `rt ci` and `rt lib` leave in out/rlib. They must be of the sources as they are.
 """
@@ -88,20 +89,30 @@ class Crate:
             words += ["-L", f"dependency={it}"]
         return [*words, "--antt-project", f"{KIT}/rattle/logic/antt-project.json", "--logic-built", f"{KIT}/logic_built", "--jobs", "1"]
 
-    def check(self, texts, kept):
-        """Checks the functions at these places, with these texts in place of the crate's own. Returns what the check said."""
+    def check(self, texts, kept, checked):
+        """Checks the functions at these places, with these texts in place of the crate's own. Returns what the check said. The folder `checked` keeps what
+        it checked: the next check takes from there what is still up to date, such as the code and the contracts of functions that neither changes."""
         with tempfile.TemporaryDirectory(prefix="audit-") as room:
             for part in ("src", "specs", "proofs"):
                 if os.path.isdir(f"{self.folder}/{part}"):
                     shutil.copytree(f"{self.folder}/{part}", f"{room}/{part}")
-            self.put_holes(room, {it.folder for it in kept})
-            for path, text in texts.items():
+            folders = {it.folder for it in kept}
+            self.put_holes(room, folders)
+            for path, text in {**self.texts, **texts}.items():
                 with open(f"{room}/{path}", "w", encoding="utf-8") as file:
-                    file.write(text)
-            words = [f"{KIT}/bin/rattle", "check", *self.words(), "--allow-holes"]
+                    file.write(self.hollowed(path, text, folders))
+            words = [f"{KIT}/bin/rattle", "check", *self.words(), "--allow-holes", "--incremental", checked]
             words += [word for it in kept for word in ("--only", it.name)]
             how = {"stdin": subprocess.DEVNULL, "stdout": subprocess.PIPE, "stderr": subprocess.STDOUT, "text": True, "errors": "replace"}
             return subprocess.run(words, cwd=room, **how).stdout
+
+    def hollowed(self, path, text, kept):
+        """Returns the text with an endless loop for each body whose proof is not in one of these folders: the check reads neither it nor what it alone calls.
+        A cycle of calls stays one."""
+        for it in reversed(functions(text)) if path.startswith("src/") else ():
+            if not it.cycle and place(path, it, self.types).folder not in kept:
+                text = f"{text[: it.body]}{{ loop {{}} }}{text[it.end :]}"
+        return text
 
     def put_holes(self, room, kept):
         """Has the hole stand for each proof that is not in one of these folders."""
