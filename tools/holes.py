@@ -75,7 +75,7 @@ class Crate:
 
     def unproved(self):
         """Returns the lowest crate below that has no rlib, if there is one."""
-        return next((it for it in self.below(self.name) if not os.path.isdir(self.rlib(it))), None)
+        return next((it for it in self.below(self.name) if not os.path.exists(f"{self.rlib(it)}/format")), None)
 
     def rlib(self, name):
         return f"{self.root}/crates/{name}/out/rlib/{name}.rlib"

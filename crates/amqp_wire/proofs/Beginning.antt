@@ -1,6 +1,6 @@
 -- Compounds without parts.
-use Rattle.std.proofs.Common.{◌≡◌, ℕ, ◌<◌, ◌^◌, List, [], Option, Some, None, true, false, refl, sym, ap, ◌∙◌, subst, append-nil}
-use Rattle.amqp_ser.specs.Tree.{Tree, uint, no_trees}
+use Rattle.std.proofs.Common.{◌≡◌, ℕ, ◌<◌, ◌^◌, [], Option, Some, None, true, false, refl, sym, ap, ◌∙◌, subst, append-nil}
+use Rattle.amqp_ser.specs.Tree.{uint, no_trees}
 use Rattle.amqp_ser.specs.Scalars.{scalar_form}
 use Rattle.amqp_ser.specs.declared.kind.CompoundKind.{CompoundKind}
 use Rattle.amqp_ser.specs.declared.kind.CompoundKind.TheVariants as kinds
@@ -142,14 +142,6 @@ headed_begun adds reads within extends marks start now c o (resolved.NewtypeVari
 headed_begun adds reads within extends marks start now c o resolved.Transparent t k d n p f a m s h = absurd t
 headed_begun adds reads within extends marks start now c o resolved.Single t k d n p f a m s h = absurd t
 headed_begun adds reads within extends marks start now c o resolved.Refused t k d n p f a m s h = absurd t
-
--- A compound that accepts no part.
-pub refused_begun : {K : Type 0} (adds : Adding K) (reads : Promises K) (within : Opening K) (extends : Extending K) (marks : Marking K) (start now : Pass K) (kind : CompoundKind) (c : PassCompound) (ps : List (Option Tree)) → c.kind ≡ resolved.Refused → c.marker ≡ None → extends start.sink now.sink → Has adds reads within extends marks start kind now c ps
-refused_begun {K} adds reads within extends marks start now kind c ps k m h = subst (λ w. HasIn adds reads within extends marks w start kind now.sink (kept c) ps) (sym k) (m, h)
-
--- A single compound.
-pub single_begun : {K : Type 0} (adds : Adding K) (reads : Promises K) (within : Opening K) (extends : Extending K) (marks : Marking K) (start now : Pass K) (c : PassCompound) → c.kind ≡ resolved.Single → c.count ≡ 0 → c.place ≡ start.place → c.marker ≡ start.marker → adds start.sink [] now.sink → Has adds reads within extends marks start kinds.Single now c []
-single_begun {K} adds reads within extends marks start now c k n p m h = subst (λ w. HasIn adds reads within extends marks w start kinds.Single now.sink (kept c) []) (sym k) (refl, (n, (h, (m, p))))
 
 list_kind : (o : Option Marker) → HasHeader (resolve_list o) → (kinds.List ≡ kind_of (resolve_list o)) × (o ≡ Some (marker_of (resolve_list o)))
 list_kind None h = absurd h

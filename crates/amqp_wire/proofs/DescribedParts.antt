@@ -22,7 +22,7 @@ use Rattle.amqp_wire.specs.declared.pass.Pass.{Pass}
 use Rattle.amqp_wire.specs.declared.pass_compound.PassCompound.{PassCompound}
 use Rattle.amqp_wire.specs.declared.place.Place.{Place}
 use Rattle.amqp_wire.specs.declared.place.Place.TheVariants as places
-use Rattle.amqp_wire.proofs.Given.{when2, inside_placed}
+use Rattle.amqp_wire.proofs.Given.{when2}
 use Rattle.amqp_wire.proofs.SinkLaws.{Laws, puts_after, has_extends, has_same}
 use Rattle.amqp_wire.proofs.PartSteps.{plain_puts, gives_extends}
 
@@ -210,15 +210,6 @@ no_descriptor {K} adds reads within extends marks L start before now after c d p
     let n = has_same adds reads within extends marks L (class_of c.kind) c.kind start kinds.Single w.old after (kept c) [] w.has s in
     (n, λ t. has_extends adds reads within extends marks L (class_of c.kind) c.kind start kinds.Single after (kept c) [] n)
 
-no_some : (x : Descriptor) → None ≡ Some x → ⊥
-no_some x e = cc
-
--- Only a ulong or a symbol is accepted.
-pub always_named : {K : Type 0} (adds : Adding K) (reads : Promises K) (within : Opening K) (extends : Extending K) (marks : Marking K) → (start before now : Pass K) (c : PassCompound) (d : Option Tree) (part : Result (Unit {0}) GaveUp) (u : Unit {0}) → part ≡ Ok u → AwaitsDescriptor adds reads within extends marks start before c → Gives adds reads extends before d part now → descriptor_of d ≡ None → ⊥
-always_named {K} adds reads within extends marks start before now c d part u is w g n =
-    let f = prefix_of adds reads extends w.old before now d w.place w.marker_is (subst (λ x. Gives adds reads extends before d x now) is g) in
-    no_some f.added.descriptor (sym n ∙ (ap descriptor_of f.added.is ∙ f.added.named))
-
 single_list : kinds.Single ≡ kinds.List → ⊥
 single_list q = cc
 
@@ -249,12 +240,6 @@ pub resumed : {K : Type 0} (adds : Adding K) (reads : Promises K) (within : Open
     (t : Option Tree) (r : Result (Unit {0}) GaveUp) (after : Pass K) → Gives adds reads extends next t r after → Gives adds reads extends start t r after
 resumed {K} adds reads within extends marks L start now next c a b m h t (Err e) after g = L.on start.sink now.sink after.sink (has_extends adds reads within extends marks L (class_of c.kind) c.kind start kinds.Single now.sink (kept c) [] h) (subst (λ w. extends w after.sink) a g)
 resumed {K} adds reads within extends marks L start now next c a b m h t (Ok u) after g = resumed_in adds reads within extends marks L c.kind start now.sink next (kept c) a b m h t after g
-
--- A value that was added whole.
-pub whole_gave : {K : Type 0} (adds : Adding K) (reads : Promises K) (s after : Pass K) (t : Tree) → s.marker ≡ Some marker.Other → IsOrdinary s.place → (reads.sound after.sink → within_limits t ≡ true) → uniform_arrays t ≡ true → inside t ≡ true → When reads.ranges (IsRanged t) → adds s.sink (encoding t) after.sink → puts adds reads s.sink s.place (marked s.marker (Some t)) after.sink after.place
-whole_gave {K} adds reads s after t m p w u i r h =
-    subst (λ x. puts adds reads s.sink s.place (marked x (Some t)) after.sink after.place) (sym m)
-    (subst (λ o. puts adds reads s.sink s.place o after.sink after.place) (sym (unmarked (Some t))) (ordinary_gave adds reads s.sink after.sink s.place after.place t p w u (inside_placed t i) i r h))
 
 -- A pass whose sink returned to where it was permits what it permitted.
 pub gives_after : {K : Type 0} (adds : Adding K) (reads : Promises K) (within : Opening K) (extends : Extending K) → Laws adds reads within extends → (s next : Pass K) (t : Option Tree) (r : Result (Unit {0}) GaveUp) (after : Pass K) → adds s.sink [] next.sink → next.place ≡ s.place → next.marker ≡ s.marker → Gives adds reads extends next t r after → Gives adds reads extends s t r after

@@ -200,13 +200,6 @@ pub marked_gave : {K : Type 0} (adds : Adding K) (reads : Promises K) → (a b :
     ((x : Scalar) → scalar_code x ≡ c → scalar_form x ≡ c ∷ bs → scalar_payload x ≡ bs → scalar_fits x ≡ true → IsRangedScalar x → Gave adds reads a p (scalar x) b q) → puts adds reads a p (marked_bytes s bs) b q
 marked_gave {K} adds reads a b p q s bs c e r f = subst (λ o. puts adds reads a p o b q) (sym e.marked) (f (exact_scalar s bs) e.code_is e.form e.payload e.fits_it (e.ranged r))
 
-lazy_fits : (p : Place) (bs : List ℕ) → fits_place p (lazy bs) ≡ true
-lazy_fits places.Root bs = refl
-lazy_fits places.Inside bs = refl
-lazy_fits places.Descriptor bs = refl
-lazy_fits places.First bs = refl
-lazy_fits (places.Element c) bs = refl
-
 -- The place is one of an ordinary value.
 abbrev pub LazyPlace : Place → Type 0
 LazyPlace p = (p ≡ places.Root) ⊎ (p ≡ places.Inside)
@@ -218,8 +211,3 @@ lazy_at {K} adds reads bounds a b p q bs (inr e) f r h = subst (λ w. Gave adds 
 -- A value that is encoded already.
 pub lazy_gave : {K : Type 0} (adds : Adding K) (reads : Promises K) → Bounds adds reads → (a b : K) (p q : Place) (bs : List ℕ) → LazyPlace p → is_frame bs ≡ true → AreBytes bs → adds a bs b → puts adds reads a p (with_marker marker.Lazy (Some (scalar (binary bs)))) b q
 lazy_gave {K} adds reads bounds a b p q bs l f r h = subst (λ c. puts adds reads a p (if c then Some (lazy bs) else None) b q) (sym f) (lazy_at adds reads bounds a b p q bs l f r h)
-
--- The answer of a call that puts a tree.
-pub gives_done : {K : Type 0} (adds : Adding K) (reads : Promises K) (extends : Extending K) (s after : Pass K) (o : Option Tree) (put : Bool) (res : Result (Unit {0}) GaveUp) → extends s.sink after.sink → (put ≡ true → puts adds reads s.sink s.place (marked s.marker o) after.sink after.place) → MatchResult res (λ _. put ≡ true) (λ _. Unit {0}) → Gives adds reads extends s o res after
-gives_done {K} adds reads extends s after o put (Err e) g f h = g
-gives_done {K} adds reads extends s after o put (Ok u) g f h = f h
