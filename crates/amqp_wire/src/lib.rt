@@ -26,4 +26,6 @@ mod sink;
 
 pub use appending::append;
 pub use encode::to_vec;
+pub use hints::Hints;
 pub use lazy_value::to_lazy_value;
+pub use passes::{append_value, error_of, measure};

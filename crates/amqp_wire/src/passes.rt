@@ -16,7 +16,7 @@ use amqp_size::serialized_size;
 /// Returns the error of a value on which a pass gave up: that of `serialized_size`, or
 /// `OutOfMemory` if the value has a size.
 #[inline(never)]
-pub(crate) fn error_of<T: Serialize>(value: &T) -> Error
+pub fn error_of<T: Serialize>(value: &T) -> Error
     ensures { AreBytesOf (T.tree value.now) (Err result) }
 {
     match serialized_size(value) {
@@ -25,14 +25,17 @@ pub(crate) fn error_of<T: Serialize>(value: &T) -> Error
     }
 }
 
-/// Returns the length of the encoding, unless the pass gave up, and the hints. No clause says that
-/// the length and the hints are those of the value.
+/// Returns the length of the encoding, unless the pass gave up, and the hints with those of the
+/// value after them. No clause says that the length and the hints are those of the value.
 ///
 /// The serializer is created here, so that the compiler knows its place in a program that measures
 /// values of several types.
+///
+/// # Memory
+/// 12 bytes for each compound, in `hints`.
 #[tactic(auto, using(crate::proofs::Rooted::root_ranged))]
 #[inline]
-pub(crate) fn measure<T: Serialize>(hints: Hints, value: &T) -> (Option<usize>, Hints)
+pub fn measure<T: Serialize>(hints: Hints, value: &T) -> (Option<usize>, Hints)
     ensures { IfSome result.0 (λ _. IsInRange (T.tree value.now)) }
 {
     let mut pass = Pass::new(Counter { len: 0, hints });
@@ -49,10 +52,10 @@ pub(crate) fn measure<T: Serialize>(hints: Hints, value: &T) -> (Option<usize>, 
     }
 }
 
-/// Appends the encoding within the capacity, and returns whether that succeeded.
+/// Appends the encoding within the capacity, by the next hints, and returns whether that succeeded.
 #[tactic(auto, using(crate::proofs::Rooted::root_written, crate::proofs::Rooted::root_longer))]
 #[inline]
-pub(crate) fn append_value<T: Serialize>(
+pub fn append_value<T: Serialize>(
     hints: Hints,
     out: Vec<u8>,
     value: &T,
