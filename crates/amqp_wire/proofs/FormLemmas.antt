@@ -1,13 +1,11 @@
 -- The bytes and the lengths of headers.
-use Rattle.std.proofs.Common.{◌≡◌, ℕ, zero, suc, ◌+◌, ◌≤◌, List, [], ◌∷◌, ◌++◌, Bool, true, false, ◌&&◌, length, take, refl, ap, sym, ◌∙◌, subst, arith, append_assoc, append-nil, length-append, if◌then◌else◌, nat_eq, nat_le}
+use Rattle.std.proofs.Common.{◌≡◌, ℕ, ◌+◌, ◌≤◌, List, [], ◌∷◌, ◌++◌, Bool, true, false, ◌&&◌, length, take, refl, ap, sym, ◌∙◌, subst, arith, append_assoc, append-nil, length-append, if◌then◌else◌, nat_eq, nat_le}
 use Rattle.std.proofs.lemmas.Bool.Decides.{nat_tests}
-use Rattle.std.specs.Int.{w32, to_be_bytes, bytes_high_first}
+use Rattle.std.specs.Int.{w32, to_be_bytes}
 use Rattle.amqp_ser.specs.Limits.{fits, is_count, is_short}
 use Rattle.amqp_ser.specs.Encoding.{wide}
 use Rattle.amqp_ser.specs.Extends.{Extends}
 use Rattle.amqp_ser.proofs.Bools.{le_true}
-use Rattle.amqp_pass.specs.ScalarEncoding.{form_bytes, form_payload}
-use Rattle.amqp_pass.specs.declared.scalar_encoding.ScalarEncoding.{ScalarEncoding}
 use Rattle.amqp_wire.specs.Forms.{form, header, counted_header, header_length, Appends, Inside, Longer, OutMarks}
 use Rattle.amqp_wire.specs.declared.appender.Appender.{Appender}
 use Rattle.amqp_wire.specs.declared.sink.Opened.{Opened}
@@ -91,14 +89,3 @@ pub restored_out : (a b c : Appender) (m : Mark) → OutMarks a m → Longer a b
 restored_out a b c m k h e s bound =
     let same : c.out.items ≡ a.out.items ++ [] = e ∙ (cut_back a.out.items b.out.items m.len k.0 h.0 ∙ sym (append-nil a.out.items)) in
     record { longer = (([], same), λ f. sym (s ∙ k.1) ∙ f); out = λ f. same; few = bound }
-
-payload_in : (k n : ℕ) → length (bytes_high_first k n) ≡ k
-payload_in zero n = refl
-payload_in (suc k) n = let e = payload_in k n in omega arith
-
--- The length of a number, and with its format code.
-pub payload_length : (f : ScalarEncoding) → length (form_payload f) ≡ f.width
-payload_length f = payload_in f.width f.bits
-
-pub number_length : (f : ScalarEncoding) → length (form_bytes f) ≡ f.width + 1
-number_length f = let e = payload_length f in omega arith

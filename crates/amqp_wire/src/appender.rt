@@ -8,7 +8,6 @@ ghost use Rattle.std.specs.Prelude.{◌≡◌, ◌≤◌, ◌++◌, ◌∷◌, t
 use crate::header::{long_header, short_header};
 use crate::hints::Hints;
 use crate::sink::{HeaderKind, Mark, Opened, Sink};
-use amqp_pass::ScalarEncoding;
 use amqp_pass::width::{MAX_COUNT, MAX_LEN};
 use amqp_ser::Whole;
 
@@ -25,8 +24,7 @@ pub struct Appender {
 
 impl Appender {
     ghost use Rattle.std.specs.Prelude.{◌+◌};
-    ghost use Rattle.amqp_pass.specs.ScalarEncoding.{form_bytes, form_payload};
-    ghost use Rattle.amqp_wire.specs.Forms.{Appends, Longer, header};
+    ghost use Rattle.amqp_wire.specs.Forms.{Appends, header};
 
     /// Creates an appender.
     #[inline(always)]
@@ -52,40 +50,6 @@ impl Appender {
         }
         for byte in bytes {
             self.out.push_reserved(*byte);
-        }
-    }
-
-    /// Appends a format code and a number.
-    #[inline(always)]
-    fn put_form(&mut self, form: ScalarEncoding) -> bool
-        ensures grown { Longer self.old self.new }
-        ensures put { result ≡ true → Appends self.old (form_bytes form) self.new }
-    {
-        let [a, b, c, d, e, f, g, h] = form.bits.to_be_bytes();
-        match form.width {
-            0 => self.few(&[form.code]),
-            1 => self.few(&[form.code, h]),
-            2 => self.few(&[form.code, g, h]),
-            4 => self.few(&[form.code, e, f, g, h]),
-            8 => self.few(&[form.code, a, b, c, d, e, f, g, h]),
-            _ => false,
-        }
-    }
-
-    /// Appends a number.
-    #[inline(always)]
-    fn put_payload(&mut self, form: ScalarEncoding) -> bool
-        ensures grown { Longer self.old self.new }
-        ensures put { result ≡ true → Appends self.old (form_payload form) self.new }
-    {
-        let [a, b, c, d, e, f, g, h] = form.bits.to_be_bytes();
-        match form.width {
-            0 => self.few(&[]),
-            1 => self.few(&[h]),
-            2 => self.few(&[g, h]),
-            4 => self.few(&[e, f, g, h]),
-            8 => self.few(&[a, b, c, d, e, f, g, h]),
-            _ => false,
         }
     }
 
@@ -157,20 +121,6 @@ impl Sink for Appender {
     fn few(&mut self, bytes: &[u8]) -> bool {
         self.put(bytes);
         true
-    }
-
-    #[inline(always)]
-    fn number(
-        &mut self,
-        element: bool,
-        in_array: ScalarEncoding,
-        ordinary: ScalarEncoding,
-    ) -> bool {
-        if element {
-            self.put_payload(in_array)
-        } else {
-            self.put_form(ordinary)
-        }
     }
 
     #[inline(always)]

@@ -5,7 +5,6 @@ ghost use Rattle.amqp_wire.specs.Forms.{header_length, CountsTo};
 
 use crate::hints::Hints;
 use crate::sink::{HeaderKind, Mark, Opened, Sink};
-use amqp_pass::ScalarEncoding;
 use amqp_pass::width::{MAX_COUNT, MAX_LEN};
 use amqp_ser::Whole;
 
@@ -71,23 +70,6 @@ impl Sink for Counter {
     #[inline(always)]
     fn few(&mut self, bytes: &[u8]) -> bool {
         self.count(bytes.len())
-    }
-
-    #[tactic(auto, using(crate::proofs::FormLemmas::payload_length, crate::proofs::FormLemmas::number_length))]
-    #[inline(always)]
-    fn number(
-        &mut self,
-        element: bool,
-        in_array: ScalarEncoding,
-        ordinary: ScalarEncoding,
-    ) -> bool {
-        if element {
-            return self.count(in_array.width);
-        }
-        match ordinary.width.checked_add(1) {
-            Some(n) => self.count(n),
-            None => false,
-        }
     }
 
     #[inline(always)]

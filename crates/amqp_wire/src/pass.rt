@@ -11,7 +11,7 @@ ghost use Rattle.amqp_pass.specs.MarkedBytes.{marked_bytes};
 ghost use Rattle.amqp_wire.specs.Places.{is_element, Admits, IsOrdinary, Led};
 
 use crate::place::{Place, is_descriptor_code};
-use crate::put::{put_exact, put_text};
+use crate::put::{put_exact, put_number, put_text};
 use crate::sink::{HeaderKind, Opened, Sink};
 use amqp_frame::is_frame;
 use amqp_pass::{ScalarEncoding, ScalarMarker};
@@ -108,7 +108,7 @@ impl<K: Sink> Pass<K> {
         if !self.admit(in_array.code) {
             return false;
         }
-        self.sink.number(element, in_array, ordinary)
+        put_number(&mut self.sink, element, in_array, ordinary)
     }
 
     /// Puts a text or a binary.

@@ -5,6 +5,7 @@ ghost use Rattle.std.specs.Int.{w32, to_be_bytes};
 ghost use Rattle.amqp_ser.specs.Limits.{fits, is_short};
 ghost use Rattle.amqp_ser.specs.Scalars.{scalar_form, sized};
 ghost use Rattle.amqp_ser.specs.Tree.{uint};
+ghost use Rattle.amqp_pass.specs.ScalarEncoding.{form_bytes, form_payload};
 ghost use Rattle.amqp_wire.specs.Places.{pick};
 
 use crate::sink::Sink;
@@ -12,14 +13,66 @@ use amqp_pass::ScalarEncoding;
 use amqp_pass::width::MAX_LEN;
 use amqp_ser::Fixed;
 
+/// Puts a format code and a number.
+#[inline(always)]
+fn put_form<K: Sink>(sink: &mut K, form: ScalarEncoding) -> bool
+    ensures grown { K.extends sink.old sink.new }
+    ensures put { result ≡ true → K.adds sink.old (form_bytes form) sink.new }
+{
+    let [a, b, c, d, e, f, g, h] = form.bits.to_be_bytes();
+    match form.width {
+        0 => sink.few(&[form.code]),
+        1 => sink.few(&[form.code, h]),
+        2 => sink.few(&[form.code, g, h]),
+        4 => sink.few(&[form.code, e, f, g, h]),
+        8 => sink.few(&[form.code, a, b, c, d, e, f, g, h]),
+        _ => false,
+    }
+}
+
+/// Puts a number.
+#[inline(always)]
+fn put_payload<K: Sink>(sink: &mut K, form: ScalarEncoding) -> bool
+    ensures grown { K.extends sink.old sink.new }
+    ensures put { result ≡ true → K.adds sink.old (form_payload form) sink.new }
+{
+    let [a, b, c, d, e, f, g, h] = form.bits.to_be_bytes();
+    match form.width {
+        0 => sink.few(&[]),
+        1 => sink.few(&[h]),
+        2 => sink.few(&[g, h]),
+        4 => sink.few(&[e, f, g, h]),
+        8 => sink.few(&[a, b, c, d, e, f, g, h]),
+        _ => false,
+    }
+}
+
+/// Puts a number, which has one form in an array and another elsewhere.
+#[inline(always)]
+pub(crate) fn put_number<K: Sink>(
+    sink: &mut K,
+    element: bool,
+    in_array: ScalarEncoding,
+    ordinary: ScalarEncoding,
+) -> bool
+    ensures grown { K.extends sink.old sink.new }
+    ensures put { result ≡ true → K.adds sink.old
+        (pick element (form_bytes ordinary) (form_payload in_array)) sink.new }
+{
+    if element {
+        put_payload(sink, in_array)
+    } else {
+        put_form(sink, ordinary)
+    }
+}
+
 /// Puts the index of a variant.
 #[inline(never)]
 pub(crate) fn put_index<K: Sink>(sink: &mut K, index: u32) -> bool
     ensures grown { K.extends sink.old sink.new }
     ensures put { result ≡ true → K.adds sink.old (scalar_form (uint index)) sink.new }
 {
-    let form = ScalarEncoding::ordinary(Fixed::Uint(index));
-    sink.number(false, form, form)
+    put_form(sink, ScalarEncoding::ordinary(Fixed::Uint(index)))
 }
 
 /// Puts bytes after other bytes.

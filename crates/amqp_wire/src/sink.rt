@@ -5,12 +5,9 @@ ghost use Rattle.amqp_ser.specs.Limits.{fits, is_count};
 ghost use Rattle.amqp_ser.specs.Encoding.{encoding};
 ghost use Rattle.amqp_ser.specs.Ranged.{IsRanged};
 ghost use Rattle.amqp_ser.specs.Writable.{within_limits, uniform_arrays, inside};
-ghost use Rattle.amqp_pass.specs.ScalarEncoding.{form_bytes, form_payload};
 ghost use Rattle.amqp_wire.specs.Forms.{form};
-ghost use Rattle.amqp_wire.specs.Places.{pick};
 ghost use Rattle.amqp_wire.specs.When.{Promises, When};
 
-use amqp_pass::ScalarEncoding;
 use amqp_ser::Whole;
 
 /// The kind of a header, which determines its format codes.
@@ -104,12 +101,6 @@ pub trait Sink: Drop {
     fn few(&mut self, bytes: &[u8]) -> bool
         ensures grown { extends self.old self.new }
         ensures put { result ≡ true → adds self.old bytes.now self.new };
-
-    /// Adds a number, which has one form in an array and another elsewhere.
-    fn number(&mut self, element: bool, in_array: ScalarEncoding, ordinary: ScalarEncoding) -> bool
-        ensures grown { extends self.old self.new }
-        ensures put { result ≡ true → adds self.old
-            (pick element (form_bytes ordinary) (form_payload in_array)) self.new };
 
     /// Adds bytes.
     fn bytes(&mut self, bytes: &[u8]) -> bool
