@@ -1,17 +1,16 @@
 -- Sections that are read and written (AMQP 1.0 part 3, section 3.2).
-use Rattle.std.specs.Prelude.{◌≡◌, ◌++◌, ◌∷◌, [], ℕ, List, Option, Some, None, Ok}
+use Rattle.std.specs.Prelude.{◌≡◌, ◌++◌, ◌∷◌, [], ℕ, List, Option, Some, None}
 use Rattle.std.proofs.Common.{subst, sym, ap, ◌∙◌, append_assoc}
 use Rattle.std.proofs.lemmas.List.{append-nil}
-use Rattle.amqp_ser.specs.SizeAndBytes.{AreBytesOf}
 use Rattle.amqp_ser.specs.Tree.{Tree}
+use Rattle.amqp_wire.specs.Encoded.{IsWritten}
 use Rattle.amqp_from_slice.specs.declared.limited.Limits.{Limits}
 use Rattle.amqp_messaging.specs.Messages.{PutsTree, ReadsAll, ReadsWithin}
 
 -- Bytes with those of a tree after them.
-pub put_tree : (o : Option Tree) (bs s all : List ℕ) →
-    AreBytesOf o (Ok bs) → all ≡ s ++ bs → PutsTree o s all
-put_tree None bs s all h e = h
-put_tree (Some t) bs s all h e = subst (λ b. all ≡ s ++ b) h.1 e
+pub put_tree : (o : Option Tree) (s all : List ℕ) → IsWritten o s all → PutsTree o s all
+put_tree None s all h = h
+put_tree (Some t) s all h = h.1
 
 -- Sections that are read, and one more.
 pub add_read : {T : Type 0} (limits : Option Limits) (R : Tree → T → Type 0) (all taken rest bytes after : List ℕ) (xs : List T) (x : T) → ReadsAll limits R taken xs

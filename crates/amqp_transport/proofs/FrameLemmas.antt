@@ -1,28 +1,24 @@
 -- Frames that are written, and frames that are taken off a reader: their bytes and their size (AMQP
 -- 1.0 part 2, section 2.3.1).
 use Rattle.std.specs.Prelude.{◌≡◌, ◌≤◌, ◌<◌, ◌+◌, ◌++◌, [], ℕ, List, Option, Some, None, Ok, length, take}
-use Rattle.std.proofs.Common.{subst, sym, ap, ◌∙◌, take_all, length-append, arith}
+use Rattle.std.proofs.Common.{subst, sym, ap, ◌∙◌, take_all, append_assoc, length-append, arith}
 use Rattle.amqp_frame.specs.Taking.{Moves}
-use Rattle.amqp_ser.specs.SizeAndBytes.{AreBytesOf, IsSizeOf}
+use Rattle.amqp_ser.specs.Encoding.{encoding}
+use Rattle.amqp_ser.specs.SizeAndBytes.{IsSizeOf}
 use Rattle.amqp_ser.specs.Tree.{Tree}
+use Rattle.amqp_wire.specs.Encoded.{IsWritten}
 use Rattle.amqp_transport.specs.Frames.{header_bytes, frame_size, Begins, ExceedsFrame, IsFrameOf, IsFrameWith}
 
--- The bytes of the header, of a tree and of a payload are a frame.
-pub frame_of_bytes : (o : Option Tree) (bs payload s : List ℕ) (size kind channel : ℕ) →
-    AreBytesOf o (Ok bs) → s ≡ header_bytes size 2 kind channel ++ bs ++ payload →
-    IsFrameOf size kind channel o payload s
-frame_of_bytes None bs payload s size kind channel h e = h
-frame_of_bytes (Some t) bs payload s size kind channel h e =
-    subst (λ b. s ≡ header_bytes size 2 kind channel ++ b ++ payload) h.1 e
-
--- A frame whose size was counted from the length of the tree's encoding has the right size.
-pub frame_of_size : (o : Option Tree) (n size kind channel limit : ℕ) (payload s : List ℕ) →
-    IsSizeOf o (Ok n) → size ≡ frame_size n (length payload) → size ≤ limit →
-    IsFrameOf size kind channel o payload s → IsFrameWith limit kind channel o payload s
-frame_of_size None n size kind channel limit payload s h e l f = h
-frame_of_size (Some t) n size kind channel limit payload s h e l f =
-    subst (λ m. IsFrameOf m kind channel (Some t) payload s × (m ≤ limit))
-    (subst (λ k. size ≡ frame_size k (length payload)) h.1 e) (f, l)
+-- The bytes of the header, of a tree and of a payload, as many as the header says, are a frame.
+pub frame_of_bytes : (o : Option Tree) (head mid payload s : List ℕ) (size kind channel limit : ℕ) →
+    IsWritten o head mid → head ≡ header_bytes size 2 kind channel → s ≡ mid ++ payload →
+    length s ≡ size → size ≤ limit → IsFrameWith limit kind channel o payload s
+frame_of_bytes None head mid payload s size kind channel limit w h e n l = w
+frame_of_bytes (Some t) head mid payload s size kind channel limit w h e n l =
+    let front : mid ≡ header_bytes size 2 kind channel ++ encoding t = w.1 ∙ ap (λ b. b ++ encoding t) h in
+    let is : s ≡ header_bytes size 2 kind channel ++ encoding t ++ payload = e ∙ (ap (λ b. b ++ payload) front ∙ append_assoc (header_bytes size 2 kind channel) (encoding t) payload) in
+    let sum : size ≡ frame_size (length (encoding t)) (length payload) = omega (arith, n, ap length is, length-append (encoding t) payload) in
+    subst (λ m. IsFrameOf m kind channel (Some t) payload s × (m ≤ limit)) sum (is, l)
 
 -- A header, and as many bytes after it as it says, are a frame.
 pub whole_frame : (b c d : Option (List ℕ)) (none head mid all : List ℕ) (size offset kind channel m limit : ℕ)

@@ -1,13 +1,14 @@
 //! Writes frames.
 
-ghost use Rattle.std.specs.Prelude.{◌≡◌, ◌≤◌, ◌<◌, IfOk, IfErr, length};
-ghost use Rattle.amqp_transport.specs.Frames.{frame_size, ExceedsFrame, IsFrameOf, IsFrameWith};
+ghost use Rattle.std.specs.Prelude.{◌≡◌, ◌≤◌, ◌<◌, ℕ, IfOk, IfErr, IfSome, length};
+ghost use Rattle.amqp_transport.specs.Frames.{frame_size, ExceedsFrame, IsFrameWith};
 ghost use Rattle.amqp_transport.specs.declared.error.FrameError.TheVariants.{TooLong};
 
 use crate::error::FrameError;
 use crate::header::FrameHeader;
+use amqp_wire::{Hints, append_value, measure};
 use serde_amqp::ser::Serialize;
-use serde_amqp::{Error, append_to, serialized_size};
+use serde_amqp::{Error, serialized_size};
 use std::alloc::Global;
 
 /// Returns a frame with a performative and a payload, and without an extended header.
@@ -22,7 +23,6 @@ use std::alloc::Global;
 ///
 /// # Example
 /// An end on channel 3 is `0000000c0200000300531745`.
-#[tactic(auto, using(crate::proofs::FrameLemmas::frame_of_size, crate::proofs::FrameLemmas::exceeds_limit))]
 pub fn frame_to_vec<T: Serialize>(
     alloc: Global,
     kind: u8,
@@ -36,39 +36,68 @@ pub fn frame_to_vec<T: Serialize>(
     ensures too_long { IfErr result (λ e. e ≡ TooLong →
         ExceedsFrame limit (T.tree performative.now) (length payload.now)) }
 {
-    let len = match serialized_size(performative) {
-        Ok(len) => len,
-        Err(error) => return Err(FrameError::Value(error)),
-    };
-    let header = FrameHeader {
-        size: size_of_frame(len, payload.len(), limit)?,
-        offset: 2,
-        kind,
-        channel,
-    };
-    match write(alloc, &header, performative, payload) {
-        Ok(frame) => Ok(frame),
-        Err(error) => Err(FrameError::Value(error)),
+    let (len, hints) = measure(Hints::with_memory(Vec::new(alloc)), performative);
+    if let Some(len) = len {
+        if let Ok(size) = size_of_frame(len, payload.len(), limit) {
+            let header = FrameHeader {
+                size,
+                offset: 2,
+                kind,
+                channel,
+            };
+            if let Some(frame) = write(alloc, hints, &header, performative, payload) {
+                return Ok(frame);
+            }
+        }
     }
+    Err(reason(performative, payload.len(), limit))
 }
 
-// Returns the bytes of a header, a performative and a payload.
+// Returns the bytes of a header, a performative and a payload, unless they have not the size that
+// the header says, or an allocation fails.
 #[tactic(auto, using(crate::proofs::FrameLemmas::frame_of_bytes))]
 fn write<T: Serialize>(
     alloc: Global,
+    hints: Hints,
     header: &FrameHeader,
     performative: &T,
     payload: &[u8],
-) -> Result<Vec<u8>, Error>
+) -> Option<Vec<u8>>
     requires { header.now.offset ≡ 2 }
-    ensures { IfOk result (λ v. IsFrameOf header.now.size header.now.kind header.now.channel
-        (T.tree performative.now) payload.now v.items) }
+    ensures { IfSome result (λ v. (limit : ℕ) → header.now.size ≤ limit → IsFrameWith limit
+        header.now.kind header.now.channel (T.tree performative.now) payload.now v.items) }
 {
-    let mut frame = Vec::with_capacity(alloc, header.size as usize)?;
-    frame.extend_from_slice(&header.to_bytes())?;
-    append_to(alloc, &mut frame, performative)?;
-    frame.extend_from_slice(payload)?;
-    Ok(frame)
+    let Ok(mut frame) = Vec::with_capacity(alloc, header.size as usize) else {
+        return None;
+    };
+    if frame.extend_from_slice(&header.to_bytes()).is_err() {
+        return None;
+    }
+    let (is_written, _hints, mut frame) = append_value(hints, frame, performative);
+    if !is_written {
+        return None;
+    }
+    if frame.extend_from_slice(payload).is_err() {
+        return None;
+    }
+    if frame.len() != header.size as usize {
+        return None;
+    }
+    Some(frame)
+}
+
+// Returns why a frame is not written.
+#[tactic(auto, using(crate::proofs::FrameLemmas::exceeds_limit))]
+fn reason<T: Serialize>(performative: &T, payload: usize, limit: u32) -> FrameError
+    ensures { result ≡ TooLong → ExceedsFrame limit (T.tree performative.now) payload }
+{
+    match serialized_size(performative) {
+        Ok(len) => match size_of_frame(len, payload, limit) {
+            Ok(_) => FrameError::Value(Error::OutOfMemory),
+            Err(error) => error,
+        },
+        Err(error) => FrameError::Value(error),
+    }
 }
 
 // Returns the size of a frame with a performative and a payload of these lengths.

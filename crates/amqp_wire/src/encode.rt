@@ -31,7 +31,7 @@ use std::alloc::Global;
 pub fn to_vec<T: Serialize>(alloc: Global, value: &T) -> Result<Vec<u8>, Error>
     ensures { AreBytesOf (T.tree value.now) (result_bytes result) }
 {
-    let (len, hints) = measure(Hints::new(alloc), value);
+    let (len, hints) = measure(Hints::with_memory(Vec::new(alloc)), value);
     let Some(len) = len else {
         return Err(error_of(value));
     };

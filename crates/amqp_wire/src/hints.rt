@@ -7,7 +7,6 @@ ghost use Rattle.amqp_ser.specs.Ranged.{IsRanged};
 ghost use Rattle.amqp_ser.specs.Writable.{within_limits, uniform_arrays, inside};
 
 use amqp_ser::{Header, Whole};
-use std::alloc::Global;
 
 /// The lengths and counts of compounds, in the order in which they are opened. No clause says that
 /// they are those of a value: whoever takes one compares it with what was written.
@@ -23,12 +22,6 @@ pub struct Hints {
 }
 
 impl Hints {
-    /// Creates an empty list of hints.
-    #[inline(always)]
-    pub fn new(alloc: Global) -> Hints {
-        Hints::with_memory(Vec::new(alloc))
-    }
-
     /// Creates an empty list of hints. Of `hints` only the capacity is used.
     #[inline(always)]
     pub fn with_memory(hints: Vec<Header>) -> Hints {

@@ -55,11 +55,7 @@ pub fn measure<T: Serialize>(hints: Hints, value: &T) -> (Option<usize>, Hints)
 /// Appends the encoding within the capacity, by the next hints, and returns whether that succeeded.
 #[tactic(auto, using(crate::proofs::Rooted::root_written, crate::proofs::Rooted::root_longer))]
 #[inline]
-pub fn append_value<T: Serialize>(
-    hints: Hints,
-    out: Vec<u8>,
-    value: &T,
-) -> (bool, Hints, Vec<u8>)
+pub fn append_value<T: Serialize>(hints: Hints, out: Vec<u8>, value: &T) -> (bool, Hints, Vec<u8>)
     ensures grown { Extends out.items result.2.items }
     ensures written { result.0 ≡ true → IsWritten (T.tree value.now) out.items result.2.items }
 {

@@ -13,7 +13,7 @@ use crate::header::Header;
 use crate::message::error::MessageError;
 use crate::message::parts::{cut, reason};
 use crate::message::read::read_part;
-use crate::message::write::{put_bytes, put_front};
+use crate::message::write::{Measured, Written, measure_front, put_bytes, put_front, room};
 use crate::properties::Properties;
 use serde_amqp::Limits;
 use serde_amqp::derive::{Deserialize, Serialize};
@@ -127,7 +127,8 @@ impl<'a> LazyMessage<'a> {
     /// Returns the error of `to_vec` for the header or the annotations as `Value`.
     ///
     /// # Memory
-    /// Allocates the bytes from `alloc`, and what `to_vec` allocates for the header and annotations.
+    /// Allocates from `alloc` at most twice for the bytes, and for a table of 12 bytes for each
+    /// compound of the header and the annotations.
     pub fn to_vec(&self, alloc: Global) -> Result<Vec<u8>, MessageError>
         ensures written { IfOk result (λ v. (front : List ℕ)
             × PutsFront ⟦<Header as Serialize>⟧.tree ⟦<DeliveryAnnotations as Serialize>⟧.tree
@@ -139,16 +140,20 @@ impl<'a> LazyMessage<'a> {
             ⟦<DeliveryAnnotations as Serialize>⟧.tree ⟦<MessageAnnotations as Serialize>⟧.tree
             self.now.header self.now.delivery_annotations self.now.message_annotations f)) }
     {
-        let mut out = Vec::new(alloc);
-        put_front(
-            alloc,
-            &mut out,
+        let Measured { hints, len } = measure_front(
+            Measured::new(alloc),
             &self.header,
             &self.delivery_annotations,
             &self.message_annotations,
         )?;
-        put_bytes(&mut out, self.bare)?;
-        put_bytes(&mut out, self.footer)?;
-        Ok(out)
+        let out = room(alloc, len)?;
+        let Written { hints: _, out } = put_front(
+            Written { hints, out },
+            &self.header,
+            &self.delivery_annotations,
+            &self.message_annotations,
+        )?;
+        let all = put_bytes(out, self.bare)?;
+        Ok(put_bytes(all, self.footer)?)
     }
 }

@@ -15,7 +15,10 @@ use crate::message::content::Body;
 use crate::message::error::MessageError;
 use crate::message::parts::{cut, reason};
 use crate::message::read::{read_body, read_part};
-use crate::message::write::{put, put_bare, put_front};
+use crate::message::write::{
+    Measured, Written, measure_bare, measure_front, measure_section, put_bare, put_front,
+    put_section, room,
+};
 use crate::properties::Properties;
 use serde_amqp::Limits;
 use serde_amqp::derive::{Deserialize, Serialize};
@@ -138,7 +141,7 @@ impl Message {
     /// Returns the error of `to_vec` for a section as `Value`.
     ///
     /// # Memory
-    /// Allocates the bytes from `alloc`, and what `to_vec` allocates for each section.
+    /// Allocates from `alloc` once for the bytes, and for a table of 12 bytes for each compound.
     pub fn to_vec(&self, alloc: Global) -> Result<Vec<u8>, MessageError>
         ensures written { IfOk result (λ all. (front bare : List ℕ)
             × PutsFront ⟦<Header as Serialize>⟧.tree ⟦<DeliveryAnnotations as Serialize>⟧.tree
@@ -155,22 +158,33 @@ impl Message {
             ⟦<Body as Serialize>⟧.tree self.now.properties self.now.application_properties self.now.body f
             ⊎ RefusesSection ⟦<Footer as Serialize>⟧.tree self.now.footer f)) }
     {
-        let mut out = Vec::new(alloc);
-        put_front(
-            alloc,
-            &mut out,
+        let measured = measure_front(
+            Measured::new(alloc),
             &self.header,
             &self.delivery_annotations,
             &self.message_annotations,
         )?;
-        put_bare(
-            alloc,
-            &mut out,
+        let measured = measure_bare(
+            measured,
             &self.properties,
             &self.application_properties,
             &self.body,
         )?;
-        put(alloc, &mut out, &self.footer)?;
+        let Measured { hints, len } = measure_section(measured, &self.footer)?;
+        let out = room(alloc, len)?;
+        let front = put_front(
+            Written { hints, out },
+            &self.header,
+            &self.delivery_annotations,
+            &self.message_annotations,
+        )?;
+        let bare = put_bare(
+            front,
+            &self.properties,
+            &self.application_properties,
+            &self.body,
+        )?;
+        let Written { hints: _, out } = put_section(bare, &self.footer)?;
         Ok(out)
     }
 }

@@ -1,6 +1,6 @@
-//! Writes sections.
+//! Writes sections: all are measured, and then written into one buffer.
 
-ghost use Rattle.std.specs.Prelude.{◌≡◌, ◌++◌, Err, IfErr, OnOk};
+ghost use Rattle.std.specs.Prelude.{◌≡◌, ◌++◌, [], Err, IfErr, IfOk};
 ghost use Rattle.amqp_data.specs.declared.error.Error.TheVariants.{OutOfMemory};
 ghost use Rattle.amqp_messaging.specs.Messages.{PutsBare, PutsFront, PutsSection, PutsTree};
 ghost use Rattle.amqp_messaging.specs.Messages.{RefusesBare, RefusesFront, RefusesSection};
@@ -10,83 +10,176 @@ use crate::annotations::{ApplicationProperties, DeliveryAnnotations, MessageAnno
 use crate::header::Header;
 use crate::message::content::Body;
 use crate::properties::Properties;
+use amqp_wire::{Hints, append_value, error_of, measure};
+use serde_amqp::Error;
 use serde_amqp::derive::Serialize;
-use serde_amqp::{Error, append_to};
 use std::alloc::Global;
 
-/// Appends a section, if there is one.
-pub(crate) fn put<T: Serialize>(
-    alloc: Global,
-    out: &mut Vec<u8>,
-    section: &Option<T>,
-) -> Result<(), Error>
-    ensures puts { OnOk result (PutsSection T.tree out.old.items out.new.items section.now) }
-    ensures refused { IfErr result (RefusesSection T.tree section.now) }
-{
-    match section {
-        Some(section) => put_section(alloc, out, section),
-        None => Ok(()),
+/// Sections that are measured. No clause says that the length is theirs.
+#[derive(Drop)]
+pub(crate) struct Measured {
+    pub hints: Hints,
+    pub len: usize,
+}
+
+impl Measured {
+    /// Creates a measurement of no sections.
+    pub(crate) fn new(alloc: Global) -> Measured {
+        Measured {
+            hints: Hints::with_memory(Vec::new(alloc)),
+            len: 0,
+        }
     }
 }
 
-/// Appends a value.
-#[tactic(auto, using(crate::proofs::MessageLemmas::put_tree))]
-pub(crate) fn put_section<T: Serialize>(
-    alloc: Global,
-    out: &mut Vec<u8>,
-    section: &T,
-) -> Result<(), Error>
-    ensures puts { OnOk result (PutsTree (T.tree section.now) out.old.items out.new.items) }
-    ensures refused { IfErr result (λ e. AreBytesOf (T.tree section.now) (Err e)) }
+/// Measures one more value.
+fn measure_tree<T: Serialize>(before: Measured, section: &T) -> Result<Measured, Error>
+    ensures { IfErr result (λ e. AreBytesOf (T.tree section.now) (Err e)) }
 {
-    append_to(alloc, out, section)
+    let Measured { hints, len } = before;
+    let (more, hints) = measure(hints, section);
+    let Some(more) = more else {
+        return Err(error_of(section));
+    };
+    match len.checked_add(more) {
+        Some(len) => Ok(Measured { hints, len }),
+        None => Err(Error::OutOfMemory),
+    }
 }
 
-/// Appends bytes.
-pub(crate) fn put_bytes(out: &mut Vec<u8>, bytes: &[u8]) -> Result<(), Error>
-    ensures puts { OnOk result (out.new.items ≡ out.old.items ++ bytes.now) }
-    ensures refused { IfErr result (λ e. e ≡ OutOfMemory) }
+/// Measures one more section, if there is one.
+pub(crate) fn measure_section<T: Serialize>(
+    before: Measured,
+    section: &Option<T>,
+) -> Result<Measured, Error>
+    ensures { IfErr result (RefusesSection T.tree section.now) }
 {
-    out.extend_from_slice(bytes)?;
-    Ok(())
+    match section {
+        Some(section) => measure_tree(before, section),
+        None => Ok(before),
+    }
+}
+
+/// Measures the sections before a bare message.
+pub(crate) fn measure_front(
+    before: Measured,
+    header: &Option<Header>,
+    delivery: &Option<DeliveryAnnotations>,
+    message: &Option<MessageAnnotations>,
+) -> Result<Measured, Error>
+    ensures { IfErr result (RefusesFront ⟦<Header as Serialize>⟧.tree
+        ⟦<DeliveryAnnotations as Serialize>⟧.tree ⟦<MessageAnnotations as Serialize>⟧.tree header.now
+        delivery.now message.now) }
+{
+    let one = measure_section(before, header)?;
+    let two = measure_section(one, delivery)?;
+    Ok(measure_section(two, message)?)
+}
+
+/// Measures a bare message.
+pub(crate) fn measure_bare(
+    before: Measured,
+    properties: &Option<Properties>,
+    application: &Option<ApplicationProperties>,
+    body: &Body,
+) -> Result<Measured, Error>
+    ensures { IfErr result (RefusesBare ⟦<Properties as Serialize>⟧.tree
+        ⟦<ApplicationProperties as Serialize>⟧.tree ⟦<Body as Serialize>⟧.tree properties.now application.now
+        body.now) }
+{
+    let one = measure_section(before, properties)?;
+    let two = measure_section(one, application)?;
+    Ok(measure_tree(two, body)?)
+}
+
+/// Sections that are written.
+#[derive(Drop)]
+pub(crate) struct Written {
+    pub hints: Hints,
+    pub out: Vec<u8>,
+}
+
+/// Appends one more value.
+#[tactic(auto, using(crate::proofs::MessageLemmas::put_tree))]
+fn put_tree<T: Serialize>(before: Written, section: &T) -> Result<Written, Error>
+    ensures puts { IfOk result (λ r. PutsTree (T.tree section.now) before.out.items r.out.items) }
+    ensures refused { IfErr result (λ e. AreBytesOf (T.tree section.now) (Err e)) }
+{
+    let Written { hints, out } = before;
+    let (is_written, hints, out) = append_value(hints, out, section);
+    if is_written {
+        Ok(Written { hints, out })
+    } else {
+        Err(error_of(section))
+    }
+}
+
+/// Appends one more section, if there is one.
+pub(crate) fn put_section<T: Serialize>(
+    before: Written,
+    section: &Option<T>,
+) -> Result<Written, Error>
+    ensures puts { IfOk result (λ r. PutsSection T.tree before.out.items r.out.items section.now) }
+    ensures refused { IfErr result (RefusesSection T.tree section.now) }
+{
+    match section {
+        Some(section) => put_tree(before, section),
+        None => Ok(before),
+    }
 }
 
 /// Appends the sections before a bare message.
 pub(crate) fn put_front(
-    alloc: Global,
-    out: &mut Vec<u8>,
+    before: Written,
     header: &Option<Header>,
     delivery: &Option<DeliveryAnnotations>,
     message: &Option<MessageAnnotations>,
-) -> Result<(), Error>
-    ensures puts { OnOk result (PutsFront ⟦<Header as Serialize>⟧.tree ⟦<DeliveryAnnotations as Serialize>⟧.tree
-        ⟦<MessageAnnotations as Serialize>⟧.tree out.old.items out.new.items header.now delivery.now message.now) }
+) -> Result<Written, Error>
+    ensures puts { IfOk result (λ r. PutsFront ⟦<Header as Serialize>⟧.tree
+        ⟦<DeliveryAnnotations as Serialize>⟧.tree ⟦<MessageAnnotations as Serialize>⟧.tree before.out.items
+        r.out.items header.now delivery.now message.now) }
     ensures refused { IfErr result (RefusesFront ⟦<Header as Serialize>⟧.tree
         ⟦<DeliveryAnnotations as Serialize>⟧.tree ⟦<MessageAnnotations as Serialize>⟧.tree header.now
         delivery.now message.now) }
 {
-    put(alloc, out, header)?;
-    put(alloc, out, delivery)?;
-    put(alloc, out, message)?;
-    Ok(())
+    let one = put_section(before, header)?;
+    let two = put_section(one, delivery)?;
+    Ok(put_section(two, message)?)
 }
 
 /// Appends a bare message.
 pub(crate) fn put_bare(
-    alloc: Global,
-    out: &mut Vec<u8>,
+    before: Written,
     properties: &Option<Properties>,
     application: &Option<ApplicationProperties>,
     body: &Body,
-) -> Result<(), Error>
-    ensures puts { OnOk result (PutsBare ⟦<Properties as Serialize>⟧.tree ⟦<ApplicationProperties as Serialize>⟧.tree
-        ⟦<Body as Serialize>⟧.tree out.old.items out.new.items properties.now application.now body.now) }
+) -> Result<Written, Error>
+    ensures puts { IfOk result (λ r. PutsBare ⟦<Properties as Serialize>⟧.tree
+        ⟦<ApplicationProperties as Serialize>⟧.tree ⟦<Body as Serialize>⟧.tree before.out.items r.out.items
+        properties.now application.now body.now) }
     ensures refused { IfErr result (RefusesBare ⟦<Properties as Serialize>⟧.tree
         ⟦<ApplicationProperties as Serialize>⟧.tree ⟦<Body as Serialize>⟧.tree properties.now application.now
         body.now) }
 {
-    put(alloc, out, properties)?;
-    put(alloc, out, application)?;
-    put_section(alloc, out, body)?;
-    Ok(())
+    let one = put_section(before, properties)?;
+    let two = put_section(one, application)?;
+    Ok(put_tree(two, body)?)
+}
+
+/// Creates a buffer of this capacity.
+pub(crate) fn room(alloc: Global, len: usize) -> Result<Vec<u8>, Error>
+    ensures empty { IfOk result (λ v. v.items ≡ []) }
+    ensures refused { IfErr result (λ e. e ≡ OutOfMemory) }
+{
+    Ok(Vec::with_capacity(alloc, len)?)
+}
+
+/// Appends bytes.
+pub(crate) fn put_bytes(out: Vec<u8>, bytes: &[u8]) -> Result<Vec<u8>, Error>
+    ensures puts { IfOk result (λ v. v.items ≡ out.items ++ bytes.now) }
+    ensures refused { IfErr result (λ e. e ≡ OutOfMemory) }
+{
+    let mut out = out;
+    out.extend_from_slice(bytes)?;
+    Ok(out)
 }
