@@ -6,6 +6,7 @@
 //! bytes to an untyped value, at most 256 deep, and reads the type from it.
 #![tactic(auto)]
 
+mod entries;
 pub mod laws;
 mod lazy;
 mod limited;

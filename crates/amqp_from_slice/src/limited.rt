@@ -1,6 +1,6 @@
 //! Reading a type from the bytes of one encoded value, within limits.
 
-ghost use Rattle.std.specs.Prelude.{◌≡◌, ◌≤◌, ℕ, length, IfOk, IfErr, IfSome, MatchResult};
+ghost use Rattle.std.specs.Prelude.{◌≡◌, ◌≤◌, ℕ, length, None, IfOk, IfErr, IfSome, MatchResult};
 ghost use Rattle.std.specs.Bool.{OnTrue};
 ghost use Rattle.amqp_data.specs.declared.error.Error.TheVariants.{OutOfMemory, TooLong};
 ghost use Rattle.amqp_ser.specs.Tree.{Tree};
@@ -13,6 +13,7 @@ ghost use Rattle.amqp_from_value.specs.Refusals.{IsOfReading};
 ghost use Rattle.amqp_from_slice.specs.Limited.{IsAllowed, ReadsAllowed, for_length, levels};
 ghost use Rattle.amqp_from_slice.specs.Limited.{limits_for};
 
+use crate::entries::has_entries_within;
 use crate::plain::all_elements_have_bytes;
 use crate::read::read_at_once;
 use amqp_data::Error;
@@ -35,11 +36,15 @@ pub struct Limits {
     pub elements: u32,
     /// The number of levels. A number over 256 is the same as 256.
     pub depth: u16,
+    /// The number of entries of maps, in all maps together; a repeated key makes one entry. `None`
+    /// is no limit: there are at most half as many as bytes.
+    pub entries: Option<usize>,
 }
 
 impl Limits {
     /// Returns limits for an encoded value of this length, by which it takes memory linear in its
-    /// length: as many elements without bytes as it has bytes, and 256 levels.
+    /// length: as many elements without bytes as it has bytes, 256 levels, and any number of
+    /// entries.
     ///
     /// # Example
     /// For 13 bytes, 13 elements without bytes are allowed.
@@ -51,6 +56,7 @@ impl Limits {
             bytes,
             elements,
             depth: 256,
+            entries: None,
         }
     }
 }
@@ -99,13 +105,14 @@ fn limits_or_default(limits: Option<Limits>, bytes: &[u8]) -> Limits
 ///
 /// # Memory
 /// Allocates from `alloc` as `from_slice` does. Bytes in which an array of elements without bytes
-/// can begin, and any with a limit of fewer than 256 levels, are decoded to an untyped value. Bytes
-/// with more levels than the limit are decoded a second time, with 256 levels, to tell whether they
-/// are an encoded value.
+/// can begin, and any with a limit of entries or of fewer than 256 levels, are decoded to an
+/// untyped value, in which entries are counted. Bytes with more levels than the limit are decoded a
+/// second time, with 256 levels, to tell whether they are an encoded value.
 ///
 /// # Example
 /// `e0020340`, an array of three nulls, has a length of 4 bytes, 3 elements without bytes and 2
-/// levels. It is `TooLong` with a lower limit on any of them.
+/// levels. It is `TooLong` with a lower limit on any of them. `c1070240c103024040`, a map in a map,
+/// has 2 entries. It is `TooLong` with a limit of 1.
 pub fn from_slice_limited<T: Deserialize>(
     alloc: Global,
     bytes: &[u8],
@@ -151,9 +158,10 @@ fn read_plain<T: Deserialize>(alloc: Global, bytes: &[u8], limits: Limits) -> Op
 fn is_within(bytes: &[u8], limits: Limits) -> bool
     ensures short { OnTrue result (length bytes.now ≤ limits.bytes) }
     ensures deep { OnTrue result (256 ≤ limits.depth) }
+    ensures any { OnTrue result (limits.entries ≡ None) }
     ensures none { OnTrue result ((depth : ℕ) → elements_without_bytes depth bytes.now ≡ 0) }
 {
-    if bytes.len() <= limits.bytes && limits.depth >= 256 {
+    if bytes.len() <= limits.bytes && limits.depth >= 256 && limits.entries.is_none() {
         all_elements_have_bytes(bytes)
     } else {
         false
@@ -173,7 +181,8 @@ fn decode_limited(alloc: Global, bytes: &[u8], limits: Limits) -> Result<Value, 
     }
     let depth = limits.depth.min(256);
     match decode_value_to_depth(alloc, bytes, Some(limits.elements), depth) {
-        Ok(value) => Ok(value),
+        Ok(value) if has_entries_within(&value, limits.entries) => Ok(value),
+        Ok(_) => Err(Error::TooLong),
         Err(Error::OutOfMemory) => Err(Error::OutOfMemory),
         Err(Error::TooLong) => Err(Error::TooLong),
         Err(error) if depth == 256 => Err(error),

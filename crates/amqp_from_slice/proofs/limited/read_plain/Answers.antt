@@ -9,4 +9,4 @@ returns-in-Some g c =
     let own = g.T.Deserialize in
     let sure : c.is_within.result ≡ true = search rules in
     plain-allowed (Reading own.reads own.image own.restorable own.same) c.args.limits c.args.bytes.now c.in-Some.read
-    (on_true _ _ sure c.is_within.ensures.short) (on_true _ _ sure c.is_within.ensures.deep) (on_true _ _ sure c.is_within.ensures.none) c.in-Some.ensures
+    (on_true _ _ sure c.is_within.ensures.short) (on_true _ _ sure c.is_within.ensures.deep) (on_true _ _ sure c.is_within.ensures.any) (on_true _ _ sure c.is_within.ensures.none) c.in-Some.ensures
