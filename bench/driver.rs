@@ -16,9 +16,11 @@
 //! Operations: 0 the size, 1 the bytes in a fresh vector, 2 the hash (FNV-1a) of the bytes, 3 an untyped value,
 //! 4 the text of an untyped value that stands ready, in a fresh string, 5 an untyped value read from the bytes, 6 as 3,
 //! and the value read out of it, 7 to 9 as 0 to 2 of an untyped value that stands ready, 10 the bytes by an encoder that is
-//! kept. Where built with --cfg proton, Qpid Proton reads the bytes too: `proton` into its tree, `walked` visits that tree.
+//! kept. Where built with --cfg proton, Qpid Proton writes the bytes from its tree, which it builds, and reads them: `proton` into
+//! its tree, `walked` visits that tree. Where built with --cfg peers, rmp-serde and prost write some shapes in their formats.
 
 mod frames;
+mod parts;
 mod plain;
 mod values;
 
@@ -28,16 +30,19 @@ use std::hint::black_box;
 use values::typed::{self, Typed};
 use values::{Parts, Value};
 
-/// Where the library's value of a shape comes from: a rule of its own, or data that it is handed.
+/// Where the library's value of a shape comes from: a rule of its own, data that it is handed, or bytes that it reads as a type,
+/// or as a frame or a message. The last two are only written here.
 #[derive(Clone, Copy)]
 enum Source {
     Rule(u32),
     Data(u32),
+    Type(u32),
+    Frame(usize),
 }
 
-use Source::{Data, Rule};
+use Source::{Data, Frame, Rule, Type};
 
-const SHAPES: [(&str, Source); 13] = [
+const SHAPES: [(&str, Source); 22] = [
     ("14 fields", Rule(0)),
     ("14 fields, described", Rule(7)),
     ("7 fields, one by one", Rule(8)),
@@ -51,6 +56,15 @@ const SHAPES: [(&str, Source); 13] = [
     ("map of 1,000 keys", Rule(5)),
     ("map of 10,000 keys", Rule(6)),
     ("message", Rule(10)),
+    ("header", Type(0)),
+    ("properties", Type(1)),
+    ("12 application properties", Type(2)),
+    ("map of 12 text keys", Type(3)),
+    ("map of 1,000 keys, ordered", Type(4)),
+    ("open", Frame(0)),
+    ("transfer", Frame(1)),
+    ("message of 6 sections", Frame(2)),
+    ("the same, lazy", Frame(3)),
 ];
 
 /// How many operations there are, and how many of them begin with a type.
@@ -66,26 +80,29 @@ const KEPT: u32 = 10;
 /// The operations that answer with a hash: it is compared and not measured.
 const HASHES: [u32; 2] = [2, 9];
 
-/// The operation that reads an untyped value from bytes.
+/// The operation that writes bytes into a fresh vector, and the one that reads an untyped value from bytes.
+const WRITTEN: u32 = 1;
 const READ: u32 = 5;
 
 #[derive(Clone, Copy, PartialEq)]
 enum Who {
     Table,
-    Buffers,
     Values,
     Project,
     Proton,
     Walked,
+    Rmp,
+    Prost,
 }
 
-const WHO: [(&str, Who); 6] = [
+const WHO: [(&str, Who); 7] = [
     ("table", Who::Table),
-    ("buffers", Who::Buffers),
     ("values", Who::Values),
     ("project", Who::Project),
     ("proton", Who::Proton),
     ("walked", Who::Walked),
+    ("rmp-serde", Who::Rmp),
+    ("prost", Who::Prost),
 ];
 
 unsafe extern "C" {
@@ -93,7 +110,7 @@ unsafe extern "C" {
     fn amqp_bench(work: u32, op: u32, data: *const u8, len: usize, times: u64) -> u64;
     fn amqp_maps(kind: u32, count: u32, op: u32, times: u64) -> u64;
     fn amqp_read(kind: u32, data: *const u8, len: usize, times: u64) -> u64;
-    fn amqp_kept(shape: u32, times: u64) -> u64;
+    fn amqp_write(kind: u32, op: u32, data: *const u8, len: usize, times: u64) -> u64;
     fn amqp_keep(seed: u64, rounds: u64) -> u64;
 }
 
@@ -172,12 +189,12 @@ impl Serialize for Front {
     }
 }
 
-/// Fields under the descriptor of that performative.
-struct Described<T>(T);
+/// A value under a descriptor.
+struct Described<T>(u64, T);
 
 impl<T: Serialize> Serialize for Described<T> {
     fn serialize<S: Serializer>(&self, serializer: S) -> Result<S::Ok, Error> {
-        serializer.serialize_described(0x12, &self.0)
+        serializer.serialize_described(self.0, &self.1)
     }
 }
 
@@ -331,9 +348,27 @@ fn texts(count: u32) -> Value {
     Value::Map(Parts((0..count).map(entry).collect()))
 }
 
+fn written(value: Value) -> Vec<u8> {
+    values::bytes::to_vec(&value).unwrap()
+}
+
+/// The bytes that the library reads as the type that it writes.
+fn type_bytes(kind: u32) -> Vec<u8> {
+    match kind {
+        0 => header(),
+        1 => properties(),
+        2 => written(Value::Described(Box::new((0x74, application())))),
+        3 => written(texts(12)),
+        _ => written(numbered(1000)),
+    }
+}
+
+fn read_back<T: Typed>(bytes: &[u8]) -> T {
+    typed::from_slice(bytes).unwrap()
+}
+
 /// The bytes that are read as the type with this index.
 fn read_bytes(index: usize) -> Vec<u8> {
-    let written = |value: Value| values::bytes::to_vec(&value).unwrap();
     let plain = match READS[index] {
         (_, 0, _) => plain::table(&attach()),
         (_, 1, _) => plain::table(&ints(0, 1000)),
@@ -382,7 +417,11 @@ fn reads(who: &str, index: usize, times: u64) -> u64 {
 
 /// The map from each number below `count` to itself.
 fn numbered(count: u32) -> Value {
-    Value::Map(Parts((0..count).map(|number| (Value::Uint(number), Value::Uint(number))).collect()))
+    Value::Map(Parts(pairs(count).map(|(key, value)| (Value::Uint(key), Value::Uint(value))).collect()))
+}
+
+fn pairs(count: u32) -> impl Iterator<Item = (u32, u32)> {
+    (0..count).map(|number| (number, number))
 }
 
 #[cfg(proton)]
@@ -472,14 +511,13 @@ mod proton {
 }
 
 fn repeat<T: Serialize>(who: Who, v: &T, op: u32, times: u64) -> u64 {
-    if !matches!(who, Who::Table | Who::Buffers) {
+    if who != Who::Table {
         return on_bytes(who, &plain::table(v).unwrap(), op, times);
     }
-    let encode = |v: &T| if who == Who::Table { plain::table(v) } else { plain::buffers(v) };
     match op {
-        0 if who == Who::Table => (0..times).map(|_| plain::size(black_box(v)).unwrap() as u64).sum(),
-        1 => (0..times).map(|_| black_box(encode(black_box(v)).unwrap()).len() as u64).sum(),
-        2 => hash(&encode(v).unwrap()),
+        0 => (0..times).map(|_| plain::size(black_box(v)).unwrap() as u64).sum(),
+        1 => (0..times).map(|_| black_box(plain::table(black_box(v)).unwrap()).len() as u64).sum(),
+        2 => hash(&plain::table(v).unwrap()),
         _ => 0,
     }
 }
@@ -488,9 +526,10 @@ fn repeat<T: Serialize>(who: Who, v: &T, op: u32, times: u64) -> u64 {
 fn on_bytes(who: Who, bytes: &[u8], op: u32, times: u64) -> u64 {
     match who {
         Who::Project => unsafe { amqp_bench(UNTYPED, op - TYPED, bytes.as_ptr(), bytes.len(), times) },
+        Who::Proton if op == WRITTEN => frames::write(bytes, times),
         Who::Proton | Who::Walked if op == READ => (0..times).map(|_| proton::read(black_box(bytes), who == Who::Walked)).sum(),
         Who::Values if op == READ => (0..times).map(|_| decoded(black_box(bytes))).sum(),
-        Who::Values if op == 4 || op >= TYPED => on_value(&values::decode(bytes).unwrap(), op, times),
+        Who::Values if op == 4 || op >= TYPED => values::decode(bytes).map_or(0, |value| on_value(&value, op, times)),
         _ => 0,
     }
 }
@@ -508,42 +547,83 @@ fn on_value(v: &Value, op: u32, times: u64) -> u64 {
     }
 }
 
-/// An operation on a shape that has no type here, but the untyped value.
-fn untyped(who: Who, v: Value, op: u32, times: u64) -> u64 {
-    on_bytes(who, &values::bytes::to_vec(&v).unwrap(), op, times)
+#[cfg(peers)]
+fn by_peer(is_prost: bool, source: Source, times: u64) -> u64 {
+    use peers::*;
+    match source {
+        Rule(0) => {
+            let v = attach();
+            let (sender_settles, receiver_settles) = (v.sender_settles.map(u32::from), v.receiver_settles.map(u32::from));
+            let crate::Attach { name, handle, role, source, target, unsettled, incomplete, .. } = v;
+            let crate::Attach { delivery_count, longest_message, offered, desired, properties, .. } = v;
+            let v = Attach {
+                name, handle, role, sender_settles, receiver_settles, source, target, unsettled, incomplete, delivery_count, longest_message,
+                offered, desired, properties,
+            };
+            run(is_prost, &v, times)
+        }
+        Rule(1) => run(is_prost, &Ints(ints(0, 1000)), times),
+        Rule(2) => run(is_prost, &Rows((0..1000).map(|i| Ints(ints(i, 10))).collect()), times),
+        Rule(5) => run(is_prost, &Numbered(pairs(1000).collect()), times),
+        Data(0) => run(is_prost, &Strings(lines()), times),
+        Data(1) => run(is_prost, &Numbers(numbers()), times),
+        Type(0) => {
+            let typed::Header { durable, priority, ttl, first_acquirer, delivery_count } = read_back(&header());
+            run(is_prost, &Header { durable, priority: priority.map(u32::from), ttl, first_acquirer, delivery_count }, times)
+        }
+        _ => 0,
+    }
+}
+
+#[cfg(not(peers))]
+fn by_peer(_: bool, _: Source, _: u64) -> u64 {
+    0
 }
 
 fn answer(who: Who, shape: usize, op: u32, times: u64) -> u64 {
     let source = SHAPES[shape].1;
-    if who == Who::Project && op < TYPED {
+    if matches!(source, Type(_) if (3..TYPED).contains(&op)) || op == KEPT && who != Who::Project {
+        return 0;
+    }
+    if who == Who::Project && (op < TYPED || op == KEPT) {
+        let op = op.min(TYPED);
         return match source {
             Rule(rule) => unsafe { amqp_shape(rule, op, times) },
             Data(work) => {
                 let data = data(work);
                 unsafe { amqp_bench(work, op, data.as_ptr(), data.len(), times) }
             }
+            Type(kind) => {
+                let data = type_bytes(kind);
+                unsafe { amqp_write(kind, op, data.as_ptr(), data.len(), times) }
+            }
+            Frame(work) => if op == WRITTEN { frames::run("project", work, 0, times) } else { 0 },
         };
     }
-    if op == KEPT {
-        return match source {
-            Rule(rule) if who == Who::Project => unsafe { amqp_kept(rule, times) },
-            _ => 0,
-        };
+    if matches!(who, Who::Rmp | Who::Prost) {
+        return if op == WRITTEN { by_peer(who == Who::Prost, source, times) } else { 0 };
     }
     match source {
+        Frame(work) if who == Who::Proton && op == WRITTEN => frames::run("proton", work, 0, times),
+        Type(0) => repeat(who, &Described(0x70, read_back::<typed::Header>(&header())), op, times),
+        Type(1) => repeat(who, &Described(0x73, read_back::<typed::Properties>(&properties())), op, times),
+        Type(2) => repeat(who, &Described(0x74, read_back::<typed::Texts<Value>>(&written(application()))), op, times),
+        Type(3) => repeat(who, &read_back::<typed::Texts<u32>>(&type_bytes(3)), op, times),
+        Type(4) => repeat(who, &parts::Ordered(pairs(1000).collect()), op, times),
         Rule(0) => repeat(who, &attach(), op, times),
-        Rule(7) => repeat(who, &Described(attach()), op, times),
+        Rule(7) => repeat(who, &Described(0x12, attach()), op, times),
         Rule(8) => repeat(who, &Front(attach()), op, times),
-        Rule(9) => repeat(who, &Described(Front(attach())), op, times),
+        Rule(9) => repeat(who, &Described(0x12, Front(attach())), op, times),
         Rule(1) => repeat(who, &ints(0, 1000), op, times),
         Rule(2) => repeat(who, &(0..1000).map(|i| ints(i, 10)).collect::<Vec<_>>(), op, times),
         Rule(3) => repeat(who, &(0..255).fold(Chain::End, |c, _| Chain::Link(Box::new(c))), op, times),
         Rule(4) => repeat(who, &Blob(vec![0x5a; 65536]), op, times),
         Data(0) => repeat(who, &lines(), op, times),
         Data(1) => repeat(who, &Array(numbers()), op, times),
-        Rule(5) => untyped(who, numbered(1000), op, times),
-        Rule(6) => untyped(who, numbered(10000), op, times),
-        Rule(10) => untyped(who, message(), op, times),
+        Rule(5) => repeat(who, &pairs(1000).collect::<BTreeMap<_, _>>(), op, times),
+        Rule(6) => repeat(who, &pairs(10000).collect::<BTreeMap<_, _>>(), op, times),
+        // The message has no type here, but the untyped value.
+        Rule(10) => on_bytes(who, &written(message()), op, times),
         _ => 0,
     }
 }

@@ -3,6 +3,7 @@
 //! Proton writes a frame by putting its fields into a tree, which it encodes, and a message that stands ready; both into a
 //! buffer that stands ready. The project writes a type into a fresh vector.
 
+pub use proton::write;
 use std::hint::black_box;
 
 /// The works: a name, and the kind in the library. The transfer has a payload of 1 KiB, the message six sections.
@@ -191,15 +192,28 @@ mod proton {
         }
     }
 
-    /// Writes the header, the performative and the payload of a frame into a buffer.
+    /// Builds a tree and writes it into a buffer.
     #[inline(never)]
-    fn write_frame(tree: &Tree, calls: &[Put], payload: &[u8], buffer: &mut [u8]) -> u64 {
-        let (head, body) = buffer.split_at_mut(8);
-        let len = unsafe {
+    fn encode(tree: &Tree, calls: &[Put], buffer: &mut [u8]) -> usize {
+        unsafe {
             pn_data_clear(tree.0);
             calls.iter().for_each(|call| put(tree.0, call));
-            pn_data_encode(tree.0, body.as_mut_ptr().cast(), body.len()) as usize
-        };
+            pn_data_encode(tree.0, buffer.as_mut_ptr().cast(), buffer.len()) as usize
+        }
+    }
+
+    /// Writes the value in the bytes.
+    pub fn write(bytes: &[u8], times: u64) -> u64 {
+        let (read, _) = Tree::decode(bytes);
+        let (tree, mut calls, mut buffer) = (Tree::new(), Vec::new(), vec![0; 4 * bytes.len() + 4096]);
+        unsafe { puts(read.0, &mut calls) };
+        (0..times).map(|_| encode(&tree, &calls, &mut buffer) as u64).sum()
+    }
+
+    /// Writes the header, the performative and the payload of a frame into a buffer.
+    fn write_frame(tree: &Tree, calls: &[Put], payload: &[u8], buffer: &mut [u8]) -> u64 {
+        let (head, body) = buffer.split_at_mut(8);
+        let len = encode(tree, calls, body);
         body[len..len + payload.len()].copy_from_slice(payload);
         let size = 8 + len + payload.len();
         head[..4].copy_from_slice(&(size as u32).to_be_bytes());
@@ -250,6 +264,10 @@ mod proton {
 
 #[cfg(not(proton))]
 mod proton {
+    pub fn write(_: &[u8], _: u64) -> u64 {
+        0
+    }
+
     pub fn write_frames(_: &[u8], _: u64) -> u64 {
         0
     }

@@ -1,7 +1,7 @@
 //! Encoders in plain Rust, for comparison: over traits like serde's, for the kinds that the bench has.
 //!
 //! `Sizer` counts; with a table it is the first walk of `table`, whose second walk is `Writer`: one reservation, and
-//! each header written once. `Buffers` keeps a vector for each compound and copies it into that of its parent.
+//! each header written once.
 //! Arrays are a newtype with a marker name, as in serde's AMQP crates, so each walk knows where a value stands.
 
 #[derive(Debug)]
@@ -26,7 +26,12 @@ pub trait Serializer: Sized {
     fn serialize_some<T: Serialize>(self, v: &T) -> Result<Self::Ok, Error>;
     fn serialize_str(self, v: &str) -> Result<Self::Ok, Error>;
     fn serialize_bytes(self, v: &[u8]) -> Result<Self::Ok, Error>;
+    fn serialize_symbol(self, v: &str) -> Result<Self::Ok, Error>;
+    /// A scalar of a fixed width, with its only code.
+    fn serialize_fixed<const N: usize>(self, code: u8, v: [u8; N]) -> Result<Self::Ok, Error>;
     fn serialize_seq(self, len: Option<usize>) -> Result<Self::Seq, Error>;
+    /// A map, whose keys and values are elements by turns.
+    fn serialize_map(self) -> Result<Self::Seq, Error>;
     fn serialize_struct(self, name: &'static str, len: usize) -> Result<Fields<Self::Seq>, Error> {
         let described = name == "__DESCRIBED_BASIC" || name == "__DESCRIBED_LIST" || name == "__DESCRIBED_MAP";
         Ok(Fields { seq: self.serialize_seq(Some(len))?, described })
@@ -84,8 +89,12 @@ fn text_len(n: usize) -> usize {
     if n <= 254 { n + 2 } else { n + 5 }
 }
 
+fn map_len(n: usize) -> usize {
+    if n <= 254 { n + 3 } else { n + 9 }
+}
+
 fn list_len(n: usize) -> usize {
-    if n == 0 { 1 } else if n <= 254 { n + 3 } else { n + 9 }
+    if n == 0 { 1 } else { map_len(n) }
 }
 
 fn array_len(n: usize, count: usize) -> usize {
@@ -129,12 +138,24 @@ impl<const TABLE: bool> Sizer<TABLE> {
         }
         self.answer(code, text_len(n), n + 4)
     }
+
+    #[inline(always)]
+    fn open(&mut self, is_map: bool) -> Sizing<'_, TABLE> {
+        let outer = self.place;
+        let slot = self.table.len();
+        if TABLE {
+            self.table.push(Header { len: 0, count: 0, code: 0 });
+        }
+        let inner = if matches!(outer, Place::Marked) { Place::First } else { Place::Ordinary };
+        Sizing { sizer: self, outer, inner, is_map, slot, sum: 0, count: 0 }
+    }
 }
 
 pub struct Sizing<'a, const TABLE: bool> {
     sizer: &'a mut Sizer<TABLE>,
     outer: Place,
     inner: Place,
+    is_map: bool,
     slot: usize,
     sum: usize,
     count: usize,
@@ -171,14 +192,17 @@ impl<'a, const TABLE: bool> Serializer for &'a mut Sizer<TABLE> {
     fn serialize_bytes(self, v: &[u8]) -> Result<usize, Error> {
         self.text(0xb0, v.len())
     }
+    fn serialize_symbol(self, v: &str) -> Result<usize, Error> {
+        self.text(0xb3, v.len())
+    }
+    fn serialize_fixed<const N: usize>(self, code: u8, _v: [u8; N]) -> Result<usize, Error> {
+        self.answer(code, N + 1, N)
+    }
     fn serialize_seq(self, _len: Option<usize>) -> Result<Sizing<'a, TABLE>, Error> {
-        let outer = self.place;
-        let slot = self.table.len();
-        if TABLE {
-            self.table.push(Header { len: 0, count: 0, code: 0 });
-        }
-        let inner = if matches!(outer, Place::Marked) { Place::First } else { Place::Ordinary };
-        Ok(Sizing { sizer: self, outer, inner, slot, sum: 0, count: 0 })
+        Ok(self.open(false))
+    }
+    fn serialize_map(self) -> Result<Sizing<'a, TABLE>, Error> {
+        Ok(self.open(true))
     }
     fn serialize_newtype_struct<T: Serialize>(self, name: &'static str, v: &T) -> Result<usize, Error> {
         if name == ARRAY {
@@ -221,53 +245,10 @@ impl<const TABLE: bool> SerializeSeq for Sizing<'_, TABLE> {
             self.sizer.answer(0xf0, array_len(content, self.count), content + 8)
         } else {
             self.sizer.place = self.outer;
-            self.sizer.answer(0xd0, list_len(content), content + 8)
+            let (code, whole) = if self.is_map { (0xd1, map_len(content)) } else { (0xd0, list_len(content)) };
+            self.sizer.answer(code, whole, content + 8)
         }
     }
-}
-
-/// The scalars of a serializer that writes: each through its `put` or its `text`.
-macro_rules! scalars {
-    () => {
-        fn serialize_bool(self, v: bool) -> Result<(), Error> {
-            self.put(&[if v { 0x41 } else { 0x42 }], 0x56, [v as u8])
-        }
-        fn serialize_u8(self, v: u8) -> Result<(), Error> {
-            self.put(&[0x50, v], 0x50, [v])
-        }
-        fn serialize_u32(self, v: u32) -> Result<(), Error> {
-            match v {
-                0 => self.put(&[0x43], 0x70, v.to_be_bytes()),
-                1..=255 => self.put(&[0x52, v as u8], 0x70, v.to_be_bytes()),
-                _ => self.put(&[], 0x70, v.to_be_bytes()),
-            }
-        }
-        fn serialize_u64(self, v: u64) -> Result<(), Error> {
-            match v {
-                0 => self.put(&[0x44], 0x80, v.to_be_bytes()),
-                1..=255 => self.put(&[0x53, v as u8], 0x80, v.to_be_bytes()),
-                _ => self.put(&[], 0x80, v.to_be_bytes()),
-            }
-        }
-        fn serialize_i32(self, v: i32) -> Result<(), Error> {
-            match v {
-                -128..=127 => self.put(&[0x54, v as u8], 0x71, v.to_be_bytes()),
-                _ => self.put(&[], 0x71, v.to_be_bytes()),
-            }
-        }
-        fn serialize_none(self) -> Result<(), Error> {
-            self.put(&[0x40], 0x40, [])
-        }
-        fn serialize_some<T: Serialize>(self, v: &T) -> Result<(), Error> {
-            v.serialize(self)
-        }
-        fn serialize_str(self, v: &str) -> Result<(), Error> {
-            self.text(0xa1, v.as_bytes())
-        }
-        fn serialize_bytes(self, v: &[u8]) -> Result<(), Error> {
-            self.text(0xa0, v)
-        }
-    };
 }
 
 // ---------------------------------------------------------------- the second walk
@@ -290,6 +271,24 @@ impl Writer {
             self.out.extend_from_slice(&payload);
         }
         Ok(())
+    }
+
+    #[inline(always)]
+    fn open(&mut self, short: u8) -> Writing<'_> {
+        let outer = self.place;
+        let header = self.table[self.next];
+        self.next += 1;
+        let inner = if let Place::Marked = outer {
+            head(&mut self.out, 0xe0, header.count <= 255, false, header);
+            if header.code != 0 {
+                self.out.push(header.code);
+            }
+            Place::Element(header.code)
+        } else {
+            head(&mut self.out, short, true, outer.in_array(), header);
+            Place::Ordinary
+        };
+        Writing { writer: self, outer, inner }
     }
 
     fn text(&mut self, short: u8, v: &[u8]) -> Result<(), Error> {
@@ -331,23 +330,55 @@ impl<'a> Serializer for &'a mut Writer {
     type Ok = ();
     type Seq = Writing<'a>;
 
-    scalars!();
-
+    fn serialize_bool(self, v: bool) -> Result<(), Error> {
+        self.put(&[if v { 0x41 } else { 0x42 }], 0x56, [v as u8])
+    }
+    fn serialize_u8(self, v: u8) -> Result<(), Error> {
+        self.put(&[0x50, v], 0x50, [v])
+    }
+    fn serialize_u32(self, v: u32) -> Result<(), Error> {
+        match v {
+            0 => self.put(&[0x43], 0x70, v.to_be_bytes()),
+            1..=255 => self.put(&[0x52, v as u8], 0x70, v.to_be_bytes()),
+            _ => self.put(&[], 0x70, v.to_be_bytes()),
+        }
+    }
+    fn serialize_u64(self, v: u64) -> Result<(), Error> {
+        match v {
+            0 => self.put(&[0x44], 0x80, v.to_be_bytes()),
+            1..=255 => self.put(&[0x53, v as u8], 0x80, v.to_be_bytes()),
+            _ => self.put(&[], 0x80, v.to_be_bytes()),
+        }
+    }
+    fn serialize_i32(self, v: i32) -> Result<(), Error> {
+        match v {
+            -128..=127 => self.put(&[0x54, v as u8], 0x71, v.to_be_bytes()),
+            _ => self.put(&[], 0x71, v.to_be_bytes()),
+        }
+    }
+    fn serialize_none(self) -> Result<(), Error> {
+        self.put(&[0x40], 0x40, [])
+    }
+    fn serialize_some<T: Serialize>(self, v: &T) -> Result<(), Error> {
+        v.serialize(self)
+    }
+    fn serialize_str(self, v: &str) -> Result<(), Error> {
+        self.text(0xa1, v.as_bytes())
+    }
+    fn serialize_bytes(self, v: &[u8]) -> Result<(), Error> {
+        self.text(0xa0, v)
+    }
+    fn serialize_symbol(self, v: &str) -> Result<(), Error> {
+        self.text(0xa3, v.as_bytes())
+    }
+    fn serialize_fixed<const N: usize>(self, code: u8, v: [u8; N]) -> Result<(), Error> {
+        self.put(&[], code, v)
+    }
     fn serialize_seq(self, _len: Option<usize>) -> Result<Writing<'a>, Error> {
-        let outer = self.place;
-        let header = self.table[self.next];
-        self.next += 1;
-        let inner = if let Place::Marked = outer {
-            head(&mut self.out, 0xe0, header.count <= 255, false, header);
-            if header.code != 0 {
-                self.out.push(header.code);
-            }
-            Place::Element(header.code)
-        } else {
-            head(&mut self.out, 0xc0, true, outer.in_array(), header);
-            Place::Ordinary
-        };
-        Ok(Writing { writer: self, outer, inner })
+        Ok(self.open(0xc0))
+    }
+    fn serialize_map(self) -> Result<Writing<'a>, Error> {
+        Ok(self.open(0xc1))
     }
     fn serialize_newtype_struct<T: Serialize>(self, name: &'static str, v: &T) -> Result<(), Error> {
         if name == ARRAY {
@@ -387,123 +418,6 @@ pub fn table<T: Serialize>(v: &T) -> Result<Vec<u8>, Error> {
     let mut writer = Writer { table: sizer.table, next: 0, out: Vec::with_capacity(n), place: Place::Ordinary };
     v.serialize(&mut writer)?;
     Ok(writer.out)
-}
-
-// ---------------------------------------------------------------- a vector for each compound
-
-pub struct Buffers {
-    out: Vec<u8>,
-    place: Place,
-}
-
-impl Buffers {
-    fn put<const N: usize>(&mut self, whole: &[u8], code: u8, payload: [u8; N]) -> Result<(), Error> {
-        match self.place {
-            Place::Ordinary if !whole.is_empty() => self.out.extend_from_slice(whole),
-            Place::Element(c) if c == code => self.out.extend_from_slice(&payload),
-            Place::Ordinary | Place::First => {
-                self.open(code);
-                self.out.extend_from_slice(&payload);
-            }
-            _ => return Err(Error::Invalid),
-        }
-        Ok(())
-    }
-
-    fn open(&mut self, code: u8) {
-        self.out.push(code);
-        if let Place::First = self.place {
-            self.place = Place::Element(code);
-        }
-    }
-
-    fn text(&mut self, short: u8, v: &[u8]) -> Result<(), Error> {
-        if v.len() > LONGEST {
-            return Err(Error::TooLong);
-        }
-        let n = v.len() as u32;
-        if let (Place::Ordinary, 0..=254) = (self.place, n) {
-            self.out.extend_from_slice(&[short, n as u8]);
-        } else {
-            self.put(&[], short + 16, n.to_be_bytes())?;
-        }
-        self.out.extend_from_slice(v);
-        Ok(())
-    }
-}
-
-pub struct Buffer<'a> {
-    buffers: &'a mut Buffers,
-    parent: Vec<u8>,
-    outer: Place,
-    inner: Place,
-    count: usize,
-}
-
-impl<'a> Serializer for &'a mut Buffers {
-    type Ok = ();
-    type Seq = Buffer<'a>;
-
-    scalars!();
-
-    fn serialize_seq(self, _len: Option<usize>) -> Result<Buffer<'a>, Error> {
-        let outer = self.place;
-        let inner = if let Place::Marked = outer { Place::First } else { Place::Ordinary };
-        let parent = std::mem::take(&mut self.out);
-        Ok(Buffer { buffers: self, parent, outer, inner, count: 0 })
-    }
-    fn serialize_newtype_struct<T: Serialize>(self, name: &'static str, v: &T) -> Result<(), Error> {
-        if name == ARRAY {
-            self.place = Place::Marked;
-        }
-        v.serialize(self)
-    }
-    fn serialize_described<T: Serialize>(self, code: u64, v: &T) -> Result<(), Error> {
-        if !matches!(self.place, Place::Ordinary) {
-            return Err(Error::Invalid);
-        }
-        self.out.push(0x00);
-        self.serialize_u64(code)?;
-        v.serialize(self)
-    }
-}
-
-impl SerializeSeq for Buffer<'_> {
-    type Ok = ();
-
-    fn serialize_element<T: Serialize>(&mut self, v: &T) -> Result<(), Error> {
-        self.buffers.place = self.inner;
-        v.serialize(&mut *self.buffers)?;
-        self.inner = self.buffers.place;
-        self.count += 1;
-        Ok(())
-    }
-
-    fn end(self) -> Result<(), Error> {
-        let body = std::mem::replace(&mut self.buffers.out, self.parent);
-        if body.len() > LONGEST || self.count > MOST {
-            return Err(Error::TooLong);
-        }
-        let header = Header { len: body.len() as u32, count: self.count as u32, code: 0 };
-        let array = matches!(self.outer, Place::Marked);
-        self.buffers.place = if array { Place::Ordinary } else { self.outer };
-        match self.buffers.place {
-            Place::First => self.buffers.open(0xd0),
-            Place::Element(c) if c != 0xd0 => return Err(Error::Invalid),
-            _ => {}
-        }
-        let in_array = self.buffers.place.in_array();
-        let (short, small) = if array { (0xe0, self.count <= 255) } else { (0xc0, true) };
-        head(&mut self.buffers.out, short, small, in_array, header);
-        self.buffers.out.extend_from_slice(&body);
-        Ok(())
-    }
-}
-
-pub fn buffers<T: Serialize>(v: &T) -> Result<Vec<u8>, Error> {
-    let mut buffers = Buffers { out: Vec::new(), place: Place::Ordinary };
-    v.serialize(&mut buffers)?;
-    Ok(buffers.out)
 }
 
 // ---------------------------------------------------------------- the values

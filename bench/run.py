@@ -1,8 +1,9 @@
-"""Builds the functions of tool_bench and the driver, measures, and prints a table and what was asked beside what is.
+"""Builds the functions of tool_bench and the driver, measures, and prints the tables of README.md.
 
     python3 bench/run.py [--check | --write | --proton] [--proved] [--library FILE] [--jobs FILE] [--keep FOLDER] [--no-instructions] [--no-time]
 
-Needs rt, rustc and ar, and valgrind for the instructions. tools/native.py builds without proofs, as a proved build is made. --proved
+Needs rt, rustc and ar, and valgrind for the instructions. Qpid Proton, and rmp-serde and prost by cargo, write too where Debian's
+packages of them are installed. tools/native.py builds without proofs, as a proved build is made. --proved
 counts the workloads alone, of programs that `rt ci` proves and builds; it proves the libraries too, unless it has kept them.
 --library takes a library that stands ready, made by --keep: FOLDER/libamqp.a is the project with the kit's heap functions, in one
 file. --jobs takes a built program tool_jobs, whose workloads are counted, as are those of tool_messages in its folder. --check
@@ -10,9 +11,12 @@ measures the project's instructions and allocations alone, compares them with th
 than three percent above them. --write measures all but times, and writes these tables. --proton measures reading untyped values and
 types, and writing and reading frames and messages, beside Qpid Proton alone, and needs libqpid-proton11-dev.
 """
+import ctypes.util
 import datetime
+import glob
 import os
 import re
+import shutil
 import subprocess
 import sys
 import tempfile
@@ -24,12 +28,15 @@ sys.dont_write_bytecode = True
 import lowering  # noqa: E402
 import native  # noqa: E402
 import tables  # noqa: E402
-from tables import BY_HAND, CALLS, COUNTED, FROM_SLICE, PROVED, READ, READS, WHO, heading, line_of  # noqa: E402
+from tables import BY_HAND, BYTES, CALLS, COUNTED, FROM_SLICE, PROVED, READ, READS, WHO, heading, line_of  # noqa: E402
 
-# Code that one place calls is in line there: so what writes by a kept encoder has a library of its own, and so have the frames.
-LIBRARIES = [['amqp_bench', 'amqp_shape', 'amqp_maps'], ['amqp_read', 'amqp_kept', 'amqp_keep'], ['amqp_frames']]
+# All shapes are one program, as types of a user are: code that one place calls would be in line there. The job `keep` has types of its
+# own for the sections, so it has a library of its own.
+LIBRARIES = [['amqp_bench', 'amqp_shape', 'amqp_maps', 'amqp_read', 'amqp_write', 'amqp_frames'], ['amqp_keep']]
 # The calls that answer with the length of the bytes, and those that answer with the hash.
-LENGTHS, HASHES = [0, 7, 10], [2, 9]
+LENGTHS, HASHES = [0, 1, 7, 8, 10], [2, 9]
+# Who writes other bytes, and what the driver needs for them.
+PEERS, PROTON, REGISTRY = ['proton', 'rmp-serde', 'prost'], ['--cfg', 'proton', '-C', 'link-arg=-lqpid-proton'], '/usr/share/cargo/registry'
 # The kinds of keys of the maps that are read, and their numbers of keys.
 KINDS, COUNTS = ['text', 'symbol', 'uuid'], [64, 130]
 # The part of a workload's rounds that is counted.
@@ -64,11 +71,23 @@ def library(folder):
     return out
 
 
-# The processor that the project is built for is x86-64-v2 too.
+# The processor that the project is built for is x86-64-v2 too, and it is compiled as one unit.
 def driver(folder, made, name, more):
-    out = os.path.join(folder, name)
-    run(['rustc', '-O', '--edition', '2024', os.path.join(HERE, 'driver.rs'), '-o', out, '-C', 'target-cpu=x86-64-v2', '-C', 'link-arg=' + made] + more)
+    out, how = os.path.join(folder, name), ['-C', 'target-cpu=x86-64-v2', '-C', 'codegen-units=1']
+    run(['rustc', '-O', '--edition', '2024', os.path.join(HERE, 'driver.rs'), '-o', out, *how, '-C', 'link-arg=' + made] + more)
     return out
+
+
+def peers(folder):
+    """What adds the peers to a driver that are installed: Qpid Proton, and rmp-serde and prost as Debian has them."""
+    words = PROTON * bool(ctypes.util.find_library('qpid-proton'))
+    if all(glob.glob('%s/%s-*' % (REGISTRY, it)) for it in ('rmp-serde', 'prost-derive', 'serde_derive')):
+        place, made = os.path.join(folder, 'peers'), os.path.join(folder, 'peers', 'target', 'release')
+        shutil.copytree(os.path.join(HERE, 'peers'), place, dirs_exist_ok=True)
+        source = ['--config', 'source.crates-io.replace-with="debian"', '--config', 'source.debian.directory="%s"' % REGISTRY]
+        run(['cargo', 'build', '--release', '--offline', *source], cwd=place, env={**os.environ, 'RUSTFLAGS': '-C target-cpu=x86-64-v2'})
+        words += ['--cfg', 'peers', '--extern', 'peers=%s/libpeers.rlib' % made, '-L', 'dependency=%s/deps' % made]
+    return words
 
 
 def programs(folder, names):
@@ -141,7 +160,9 @@ def answers(plain, counting, who):
     for line in run([plain, 'list']).splitlines():
         one, shape, call, answer, name = line.split(' ', 4)
         names[shape] = name
-        if int(call) in LENGTHS:
+        if one in ('walked', *PEERS) and int(call) != BYTES:
+            continue
+        if int(call) in LENGTHS and one not in PEERS:
             size.setdefault(shape, answer)
             assert size[shape] == answer, '%s counts another length for shape %s' % (one, name)
         if CALLS.get(int(call)) == 'text':
@@ -165,10 +186,10 @@ def main():
         return proved(folder)
     made = os.path.abspath(arg('--library') or library(folder))
     if '--proton' in sys.argv:
-        return beside_proton(driver(folder, made, 'proton', ['--cfg', 'proton', '-C', 'link-arg=-lqpid-proton']))
-    plain = driver(folder, made, 'driver', [])
-    wraps = ['-C', 'link-arg=-Wl,--wrap=malloc,--wrap=realloc', '--cfg', 'count']
-    counting = driver(folder, made, 'counting', wraps)
+        return beside_proton(driver(folder, made, 'proton', PROTON))
+    links = peers(folder)
+    plain = driver(folder, made, 'driver', links)
+    counting = driver(folder, made, 'counting', ['-C', 'link-arg=-Wl,--wrap=malloc,--wrap=realloc', '--cfg', 'count', *links])
     if '--check' in sys.argv:
         more = {**reads(plain, FROM_SLICE), **maps(plain), **workloads(folder, plain)}
         names, _, found = answers(plain, counting, ['project'])
@@ -177,11 +198,10 @@ def main():
     if not {'--no-time', '--write'} & {*sys.argv}:
         for line in run([plain, 'time']).splitlines():
             who, shape, call, ns = line.split()
-            found[shape, int(call), who]['ns'] = float(ns)
-    shown = {'shapes': tables.shapes(names, size, found)}
+            found.get((shape, int(call), who), {})['ns'] = float(ns)
+    shown = {'writes': tables.writes(names, size, found), 'shapes': tables.shapes(names, size, found)}
     if '--no-instructions' not in sys.argv:
         lengths = {line.split(' ', 2)[2]: line.split(' ', 2)[1] for line in run([plain, 'reads']).splitlines()}
-        shown['targets'] = tables.targets(names, found)
         shown['types'] = tables.types(lengths, {**reads(plain, BY_HAND), **reads(plain, FROM_SLICE)})
         shown['maps'] = tables.others('maps', maps(plain))
         shown['workloads'] = tables.others('workloads', workloads(folder, plain))
@@ -212,7 +232,7 @@ def beside_proton(built):
     names, ns = {}, {}
     for line in run([built, 'list']).splitlines():
         one, shape, call, answer, name = line.split(' ', 4)
-        if one == 'proton':
+        if one == 'proton' and int(call) == READ:
             names[shape] = name
     if '--no-time' not in sys.argv:
         for line in run([built, 'time', str(READ)]).splitlines():

@@ -7,38 +7,24 @@ import re
 
 README = os.path.join(os.path.dirname(os.path.abspath(__file__)), 'README.md')
 CALLS = {0: 'size', 1: 'bytes', 3: 'value', 4: 'text', 5: 'read', 6: 'typed', 7: 'untyped size', 8: 'untyped bytes', 10: 'kept'}
-READ, UNTYPED_SIZE, UNTYPED_BYTES = 5, 7, 8
-WHO = ['table', 'buffers', 'values', 'project']
+BYTES, READ = 1, 5
+WHO, READERS = ['table', 'values', 'project', 'proton', 'rmp-serde', 'prost'], ['values', 'project']
 ALLOWED = 1.03
 # Who reads a type from bytes: the library's call, and plain Rust, of whose instructions it takes at most so many times.
 FROM_SLICE, BY_HAND, MOST_READ = '`from_slice`', 'hand', 1.3
 READS, COUNTED, PROVED = ['`from_value`', '`TryFrom`'], 'instructions', 'proved build'
 
-# A shape, its short name, and what is asked: bytes and size at most so many times those of *table*, and size at most so many
-# instructions.
-TARGETS = {
-    '14 fields': ('14 fields', 0.9, 0.75, 200),
-    '14 fields, described': ('described', 0.9, 0.75, 200),
-    '7 fields, one by one': ('7 fields', None, None, None),
-    '7 fields, described, one by one': ('7 described', None, None, None),
-    '1,000 ints': ('ints', 0.9, 0.75, None),
-    '1,000 rows of 10': ('rows', 0.9, 0.75, None),
-    'chain of 256': ('chain', 1.2, 1.2, None),
-    'blob of 64 KiB': ('blob', 1.0, None, None),
-    '1,000 strings': ('strings', 1.0, 0.75, None),
-    'array of 10,000': ('array', 0.9, 0.75, None),
-    'map of 1,000 keys': ('map', None, None, None),
-    'map of 10,000 keys': ('large map', None, None, None),
-    'message': ('message', None, None, None),
-}
-# What is asked of each shape: untyped size and bytes at most so many times those of *values*; and of the message, whose
-# properties are untyped, at most so many times the same message as an untyped value by *values*.
-MOST_UNTYPED_SIZE, MOST_UNTYPED_BYTES, MOST_MESSAGE = 1.3, 1.5, 1.5
+# The columns of the table of writing: what is called, and who is counted. The project takes at most so many times the instructions
+# of plain Rust, but in bold.
+WRITES = [(0, 'table'), (0, 'project'), (1, 'table'), (1, 'project'), (1, 'proton'), (1, 'rmp-serde'), (1, 'prost'), (10, 'project'),
+          (7, 'values'), (7, 'project'), (8, 'values'), (8, 'project')]
+MOST_WRITTEN = {0: 0.75, 1: 1.0, 7: 1.3, 8: 1.5}
 
 # The headings, by the name of the table. A run that measures times too prints more columns than README.md has.
 HEADS = {
-    'shapes': ['Shape', 'Bytes', 'Call', 'instructions: table', *WHO[1:], 'allocations: buffers', *WHO[2:]],
-    'targets': ['Target', *[it[0] for it in TARGETS.values()]],
+    'writes': ['Shape', 'Bytes', 'size: hand', 'project', 'bytes: hand', 'project', 'Proton', 'rmp-serde', 'prost', 'kept: project',
+               'untyped size: hand', 'project', 'untyped bytes: hand', 'project', 'allocations'],
+    'shapes': ['Shape', 'Bytes', 'Call', 'instructions: values', 'project', 'allocations: values', 'project'],
     'types': ['Type', 'Bytes', BY_HAND, FROM_SLICE, '%s / hand' % FROM_SLICE],
     'maps': ['Map', *READS],
     'workloads': ['Workload', COUNTED, PROVED],
@@ -87,10 +73,14 @@ def rows_of(name):
 def recorded():
     """The project's instructions and allocations, by shape and call, and the instructions of types, maps and workloads."""
     rows = {}
+    allocated = lambda cell: tuple(int(it) for it in cell.strip(')').split(' ('))
+    for cells in rows_of('writes'):
+        for (call, who), cell in zip(WRITES, cells[2:]):
+            if who == 'project' and cell != '-':
+                rows[cells[0], CALLS[call]] = (int(cell.strip('*')), *(allocated(cells[-1]) if call == BYTES else ()))
     for cells in rows_of('shapes'):
         if cells[-1] != '-':
-            calls, asked = cells[-1].strip(')').split(' (')
-            rows[cells[0], cells[2]] = (int(cells[HEADS['shapes'].index('project')]), int(calls), int(asked))
+            rows[cells[0], cells[2]] = (int(cells[HEADS['shapes'].index('project')]), *allocated(cells[-1]))
     for name in ('types', 'maps', 'workloads'):
         for cells in rows_of(name):
             rows.update({(cells[0], head): (int(cell),) for head, cell in zip(HEADS[name][1:], cells[1:]) if cell.isdigit()})
@@ -117,21 +107,38 @@ def check(names, found, more):
     return worse
 
 
+def writes(names, size, found):
+    """The table of what writing takes, with the misses in bold. Where a peer was not counted, its cell stays as README.md has it."""
+    old, lines = {cells[0]: cells[2:] for cells in rows_of('writes')}, heading(HEADS['writes'])
+    for shape, name in names.items():
+        counts = [found.get((shape, *it), {}).get('instructions') for it in WRITES]
+        cells = ['%d' % round(it) if it else '-' for it in counts]
+        for at, (call, who) in enumerate(WRITES):
+            by_hand = counts[at - 1] if who == 'project' and call in MOST_WRITTEN else None
+            if by_hand and counts[at] and round(counts[at] / by_hand, 2) > MOST_WRITTEN[call]:
+                cells[at] = '**%s**' % cells[at]
+            if who not in WHO[:3] and not counts[at] and name in old:
+                cells[at] = old[name][at]
+        at = found[shape, BYTES, 'project']
+        lines.append(line_of([name, size[shape], *cells, '%s (%s)' % (at['calls'], at['bytes'])]))
+    return lines
+
+
 def shapes(names, size, found):
-    """The table of what each call takes; with times, if they were measured."""
+    """The table of what each other call takes; with times, if they were measured."""
     with_times = any('ns' in at for at in found.values())
     heads = HEADS['shapes']
-    lines = heading(heads[:7] + ['ns a byte: table', *WHO[1:]] * with_times + heads[7:])
+    lines = heading(heads[:5] + ['ns a byte: values', 'project'] * with_times + heads[5:])
     for shape, name in names.items():
         for call, word in CALLS.items():
-            at = [found.get((shape, call, who), {}) for who in WHO]
-            if not any(at):
+            at = [found.get((shape, call, who), {}) for who in READERS]
+            if not any(at) or (call, 'project') in WRITES:
                 continue
             length = at[-1].get('length', int(size[shape]))
             row = [name, str(length), word]
             row += ['%d' % round(x['instructions']) if 'instructions' in x else '-' for x in at]
             row += ['%.4f' % (x['ns'] / length) if 'ns' in x else '-' for x in at] * with_times
-            row += ['%s (%s)' % (x['calls'], x['bytes']) if 'calls' in x else '-' for x in at[1:]]
+            row += ['%s (%s)' % (x['calls'], x['bytes']) if 'calls' in x else '-' for x in at]
             lines.append(line_of(row))
     return lines
 
@@ -151,28 +158,3 @@ def others(name, found):
     old = recorded()
     cell = lambda key: str(found[key]) if key in found else str(*old.get(key, '-'))
     return heading(HEADS[name]) + [line_of([row] + [cell((row, head)) for head in HEADS[name][1:]]) for row in dict.fromkeys(row for row, _ in found)]
-
-
-def targets(names, found):
-    """The table of what was asked beside what is, with the misses in bold."""
-    rows = [['`to_vec`, of *table*'], ['`serialized_size`, of *table*'], ['`serialized_size`, instructions'], ["allocations: the table's growths, and one"],
-            ['untyped `serialized_size`, of *values*'], ['untyped `to_vec`, of *values*'], ['`to_vec`, of untyped *values*']]
-    for shape, name in names.items():
-        if name not in TARGETS:
-            continue
-        _, most_bytes, most_size, most = TARGETS[name]
-        count = lambda call, who: found[shape, call, who]['instructions']
-
-        def told(limit, form, call, who=None, by=None):
-            """The project's instructions, or how many times those of another call they are."""
-            if not limit:
-                return '-'
-            text = form % (count(call, 'project') / (count(by or call, who) if who else 1))
-            return '%s/%s' % (text if float(text) <= limit else '**%s**' % text, limit)
-        cells = [told(most_bytes, '%.2f', 1, 'table'), told(most_size, '%.2f', 0, 'table'), told(most, '%.0f', 0)]
-        cells += ['%d+1' % (int(found[shape, 1, 'project']['calls']) - 1)]
-        cells += [told(MOST_UNTYPED_SIZE, '%.2f', UNTYPED_SIZE, 'values'), told(MOST_UNTYPED_BYTES, '%.2f', UNTYPED_BYTES, 'values')]
-        cells += [told(MOST_MESSAGE if name == 'message' else None, '%.2f', 1, 'values', UNTYPED_BYTES)]
-        for row, cell in zip(rows, cells):
-            row.append(cell)
-    return heading(HEADS['targets']) + [line_of(row) for row in rows]

@@ -380,11 +380,11 @@ impl Typed for Attach {
 }
 
 pub struct Header {
-    durable: Option<bool>,
-    priority: Option<u8>,
-    ttl: Option<u32>,
-    first_acquirer: Option<bool>,
-    delivery_count: Option<u32>,
+    pub durable: Option<bool>,
+    pub priority: Option<u8>,
+    pub ttl: Option<u32>,
+    pub first_acquirer: Option<bool>,
+    pub delivery_count: Option<u32>,
 }
 
 impl Typed for Header {
@@ -404,19 +404,19 @@ impl Typed for Header {
 }
 
 pub struct Properties {
-    message_id: Option<Value>,
-    user_id: Option<Binary>,
-    to: Option<String>,
-    subject: Option<String>,
-    reply_to: Option<String>,
-    correlation_id: Option<Value>,
-    content_type: Option<Symbol>,
-    content_encoding: Option<Symbol>,
-    absolute_expiry_time: Option<Timestamp>,
-    creation_time: Option<Timestamp>,
-    group_id: Option<String>,
-    group_sequence: Option<u32>,
-    reply_to_group_id: Option<String>,
+    pub message_id: Option<Value>,
+    pub user_id: Option<Binary>,
+    pub to: Option<String>,
+    pub subject: Option<String>,
+    pub reply_to: Option<String>,
+    pub correlation_id: Option<Value>,
+    pub content_type: Option<Symbol>,
+    pub content_encoding: Option<Symbol>,
+    pub absolute_expiry_time: Option<Timestamp>,
+    pub creation_time: Option<Timestamp>,
+    pub group_id: Option<String>,
+    pub group_sequence: Option<u32>,
+    pub reply_to_group_id: Option<String>,
 }
 
 impl Typed for Properties {
