@@ -14,4 +14,3 @@ pub mod Spoil
 pub mod Transparent
 pub mod Whole
 pub mod TakesWhole
-pub mod DescribedLemmas

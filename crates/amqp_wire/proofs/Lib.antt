@@ -7,5 +7,3 @@ mod Beginning
 mod Ending
 mod DescribedParts
 mod Rooted
-pub mod Meanings
-pub mod Parts

@@ -1,0 +1,10 @@
+-- Definitions that contracts of public items use. Only contracts of tests use `told` in Refused.
+pub mod Refused
+pub mod WholePosition
+pub mod WholeContext
+pub mod State
+pub mod ScalarEncoding
+pub mod Width
+pub mod Position
+pub mod AddPart
+pub mod MarkedBytes
