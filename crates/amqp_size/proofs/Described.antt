@@ -1,7 +1,7 @@
 -- A descriptor and the value after it.
 use Rattle.std.proofs.Common.{◌≡◌, ℕ, ◌+◌, ◌<◌, Option, Some, None, Bool, true, false, ◌&&◌, Result, Ok, Err, length, refl, ap, sym, ◌∙◌, subst, arith, length-append, is_some}
-use Rattle.amqp_pass.specs.declared.size_error.SizeError.{SizeError}
-use Rattle.amqp_pass.specs.declared.size_error.SizeError.TheVariants as error
+use Rattle.amqp_size.specs.declared.size_error.SizeError.{SizeError}
+use Rattle.amqp_size.specs.declared.size_error.SizeError.TheVariants as error
 use Rattle.amqp_ser.specs.Tree.{Scalar, null, bool, ubyte, ushort, uint, ulong, byte, short, int, long, float, double, decimal32, decimal64, decimal128, char, timestamp, uuid, binary, string, symbol, Descriptor, name, code, Tree, scalar, list, array, map, described, variant, lazy, transparent}
 use Rattle.amqp_ser.specs.Limits.{is_length}
 use Rattle.amqp_ser.specs.Ranged.{IsRanged, IsRangedScalar, IsRangedDescriptor}
@@ -11,19 +11,19 @@ use Rattle.amqp_ser.specs.Writable.{uniform_arrays, within_limits, scalar_fits, 
 use Rattle.amqp_ser.specs.Composites.{scalar_descriptor, descriptor_of, as_described}
 use Rattle.amqp_ser.specs.Marked.{with_marker}
 use Rattle.amqp_ser.specs.declared.marker.Marker.TheVariants as marker
-use Rattle.amqp_pass.specs.Refused.{refuses_none}
+use Rattle.amqp_size.specs.Refused.{refuses_none}
 use Rattle.amqp_ser.proofs.Bools.{left_false, right_false, le_false, le_true, is_le}
-use Rattle.amqp_pass.specs.Position.{position_of, meant, without_prefix, base_position, suits, next, extent, within_limits_at, described_context, the_marker}
+use Rattle.amqp_size.specs.Position.{position_of, meant, without_prefix, base_position, suits, next, extent, within_limits_at, described_context, the_marker}
 use Rattle.amqp_size.specs.SizeSerializer.{AtPosition, refused}
-use Rattle.amqp_pass.specs.AddPart.{Undescribed}
-use Rattle.amqp_pass.specs.declared.position.BasePosition.{BasePosition}
-use Rattle.amqp_pass.specs.declared.position.BasePosition.TheVariants as base
-use Rattle.amqp_pass.specs.WholePosition.{Position}
-use Rattle.amqp_pass.specs.WholePosition as position
-use Rattle.amqp_pass.specs.WholeContext.{Context}
-use Rattle.amqp_pass.specs.WholeContext as context
-use Rattle.amqp_pass.specs.declared.scalar_marker.ScalarMarker.{ScalarMarker}
-use Rattle.amqp_pass.specs.declared.scalar_marker.ScalarMarker.TheVariants as scalar_marker
+use Rattle.amqp_size.specs.AddPart.{Undescribed}
+use Rattle.amqp_size.specs.declared.position.BasePosition.{BasePosition}
+use Rattle.amqp_size.specs.declared.position.BasePosition.TheVariants as base
+use Rattle.amqp_size.specs.WholePosition.{Position}
+use Rattle.amqp_size.specs.WholePosition as position
+use Rattle.amqp_size.specs.WholeContext.{Context}
+use Rattle.amqp_size.specs.WholeContext as context
+use Rattle.amqp_size.specs.declared.scalar_marker.ScalarMarker.{ScalarMarker}
+use Rattle.amqp_size.specs.declared.scalar_marker.ScalarMarker.TheVariants as scalar_marker
 
 -- The bytes and the limit of a descriptor are those of its scalar.
 of_scalar : (s : Scalar) (x : Descriptor) → scalar_descriptor s ≡ Some x → (scalar_fits s ≡ descriptor_fits x) × (scalar_form s ≡ descriptor_form x)

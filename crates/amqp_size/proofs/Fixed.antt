@@ -6,8 +6,8 @@ use Rattle.amqp_ser.specs.Scalars.{scalar_form, scalar_payload}
 use Rattle.amqp_ser.specs.Writable.{scalar_fits}
 use Rattle.amqp_ser.specs.declared.fixed.Fixed.{Fixed}
 use Rattle.amqp_ser.specs.declared.fixed.Fixed.TheVariants as fixed
-use Rattle.amqp_pass.specs.ScalarEncoding.{form_bytes, form_payload}
-use Rattle.amqp_pass.specs.declared.scalar_encoding.ScalarEncoding.{ScalarEncoding}
+use Rattle.amqp_size.specs.ScalarEncoding.{form_bytes, form_payload}
+use Rattle.amqp_size.specs.declared.scalar_encoding.ScalarEncoding.{ScalarEncoding}
 
 pub length-bytes_high_first : (k n : ℕ) → length (bytes_high_first k n) ≡ k
 length-bytes_high_first zero n = refl

@@ -1,21 +1,21 @@
 -- Open compounds of every kind.
 use Rattle.std.proofs.Common.{◌≡◌, ℕ, ◌+◌, ◌<◌, ◌≤◌, List, [], ◌∷◌, ◌++◌, Option, Some, None, true, false, Result, Ok, Err, MatchResult, IfOk, IfErr, refl, ap, sym, ◌∙◌, subst, if◌then◌else◌, inl, inr}
-use Rattle.amqp_pass.specs.declared.size_error.SizeError.{SizeError}
-use Rattle.amqp_pass.specs.declared.size_error.SizeError.TheVariants as error
+use Rattle.amqp_size.specs.declared.size_error.SizeError.{SizeError}
+use Rattle.amqp_size.specs.declared.size_error.SizeError.TheVariants as error
 use Rattle.amqp_ser.specs.Tree.{Tree}
 use Rattle.amqp_ser.specs.Compounds.{tree_of_parts}
 use Rattle.amqp_ser.specs.declared.kind.CompoundKind.{CompoundKind}
 use Rattle.amqp_ser.specs.declared.kind.CompoundKind.TheVariants as kinds
-use Rattle.amqp_pass.specs.Position.{position_of, meant, without_prefix, is_array, is_gathered, limit_of}
+use Rattle.amqp_size.specs.Position.{position_of, meant, without_prefix, is_array, is_gathered, limit_of}
 use Rattle.amqp_size.specs.SizeSerializer.{AtPosition, HoldsGathered, HoldsTransparent, HoldsSingle, Holding}
-use Rattle.amqp_pass.specs.AddPart.{constructor_len_in, PassesLimit}
-use Rattle.amqp_pass.specs.WholePosition.{Root}
-use Rattle.amqp_pass.specs.WholeContext.{Context}
-use Rattle.amqp_pass.specs.WholeContext as context
-use Rattle.amqp_pass.specs.declared.resolved_kind.ResolvedKind.{ResolvedKind}
-use Rattle.amqp_pass.specs.declared.resolved_kind.ResolvedKind.TheVariants as resolved_kinds
+use Rattle.amqp_size.specs.AddPart.{constructor_len_in, PassesLimit}
+use Rattle.amqp_size.specs.WholePosition.{Root}
+use Rattle.amqp_size.specs.WholeContext.{Context}
+use Rattle.amqp_size.specs.WholeContext as context
+use Rattle.amqp_size.specs.declared.resolved_kind.ResolvedKind.{ResolvedKind}
+use Rattle.amqp_size.specs.declared.resolved_kind.ResolvedKind.TheVariants as resolved_kinds
 use Rattle.amqp_size.specs.declared.serializer.SizeSerializer.{SizeSerializer}
-use Rattle.amqp_pass.specs.declared.open_compound.OpenCompound.{OpenCompound}
+use Rattle.amqp_size.specs.declared.open_compound.OpenCompound.{OpenCompound}
 use Rattle.amqp_size.proofs.Refusing.{refused_part}
 use Rattle.amqp_size.proofs.Part.{end_taken}
 use Rattle.amqp_size.proofs.Transparent.{taken_transparent, refused_transparent, over_transparent}

@@ -5,10 +5,10 @@ use Rattle.amqp_ser.specs.Encoding.{encoding_each, payload, payload_each, code_l
 use Rattle.amqp_ser.specs.Writable.{same_constructor, each_constructor}
 use Rattle.amqp_ser.proofs.Bools.{left_true}
 use Rattle.amqp_ser.proofs.Joins.{join, encoding_each-join, payload_each-join}
-use Rattle.amqp_pass.specs.Position.{element, next, form}
+use Rattle.amqp_size.specs.Position.{element, next, form}
 use Rattle.amqp_size.specs.SizeSerializer.{body_bytes, inner_position_of, one_in}
-use Rattle.amqp_pass.specs.AddPart.{constructor_len}
-use Rattle.amqp_pass.specs.WholePosition.{FirstElement}
+use Rattle.amqp_size.specs.AddPart.{constructor_len}
+use Rattle.amqp_size.specs.WholePosition.{FirstElement}
 
 -- The bytes of the remaining parts.
 abbrev pub rest_of : Bool → Trees → List ℕ

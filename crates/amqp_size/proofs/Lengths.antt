@@ -5,7 +5,7 @@ use Rattle.amqp_ser.specs.Tree.{Tree, uint}
 use Rattle.amqp_ser.specs.Limits.{is_short}
 use Rattle.amqp_ser.specs.Scalars.{scalar_form}
 use Rattle.amqp_ser.specs.Encoding.{encoding, counted, wide, list_form}
-use Rattle.amqp_pass.specs.Width.{map_width, list_width, uint_width}
+use Rattle.amqp_size.specs.Width.{map_width, list_width, uint_width}
 
 if_len : (t : Bool) (xs ys : List ℕ) (m n : ℕ) → length xs ≡ m → length ys ≡ n → length (if t then xs else ys) ≡ (if t then m else n)
 if_len true xs ys m n a b = a

@@ -14,3 +14,4 @@ pub mod Spoil
 pub mod Transparent
 pub mod Whole
 pub mod TakesWhole
+pub mod DescribedLemmas

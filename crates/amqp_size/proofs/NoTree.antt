@@ -7,13 +7,13 @@ use Rattle.amqp_ser.specs.declared.kind.CompoundKind.{CompoundKind}
 use Rattle.amqp_ser.specs.declared.kind.CompoundKind.TheVariants as kinds
 use Rattle.amqp_ser.specs.declared.marker.Marker.TheVariants as marker
 use Rattle.amqp_ser.proofs.Pairing.{Pairing, pairing, paired-even}
-use Rattle.amqp_pass.specs.Position.{position_of, meant, resolved_kind_of, is_gathered}
+use Rattle.amqp_size.specs.Position.{position_of, meant, resolved_kind_of, is_gathered}
 use Rattle.amqp_size.specs.SizeSerializer.{AtPosition, SingleParts, HoldsGathered, HoldsTransparent, HoldsSingle, Holding}
-use Rattle.amqp_pass.specs.WholeContext.{Context}
-use Rattle.amqp_pass.specs.WholeContext as context
-use Rattle.amqp_pass.specs.declared.resolved_kind.ResolvedKind.TheVariants as resolved_kinds
+use Rattle.amqp_size.specs.WholeContext.{Context}
+use Rattle.amqp_size.specs.WholeContext as context
+use Rattle.amqp_size.specs.declared.resolved_kind.ResolvedKind.TheVariants as resolved_kinds
 use Rattle.amqp_size.specs.declared.serializer.SizeSerializer.{SizeSerializer}
-use Rattle.amqp_pass.specs.declared.open_compound.OpenCompound.{OpenCompound}
+use Rattle.amqp_size.specs.declared.open_compound.OpenCompound.{OpenCompound}
 use Rattle.amqp_ser.proofs.Single.{whole_single}
 use Rattle.amqp_size.proofs.Transparent.{transparent_shape}
 

@@ -1,7 +1,7 @@
 -- One more part.
 use Rattle.std.proofs.Common.{◌≡◌, ℕ, ◌+◌, ◌≤◌, List, [], ◌∷◌, ◌++◌, Option, Some, None, Bool, true, false, not, ◌&&◌, Result, Ok, Err, MatchResult, IfOk, IfErr, length, refl, ap, sym, ◌∙◌, subst, arith, nat_le, if◌then◌else◌, is_some}
-use Rattle.amqp_pass.specs.declared.size_error.SizeError.{SizeError}
-use Rattle.amqp_pass.specs.declared.size_error.SizeError.TheVariants as error
+use Rattle.amqp_size.specs.declared.size_error.SizeError.{SizeError}
+use Rattle.amqp_size.specs.declared.size_error.SizeError.TheVariants as error
 use Rattle.amqp_ser.specs.Tree.{Tree, Trees, no_trees, more}
 use Rattle.amqp_ser.specs.Ranged.{AreRanged}
 use Rattle.amqp_ser.specs.Encoding.{constructor}
@@ -13,14 +13,14 @@ use Rattle.amqp_ser.proofs.Bools.{nat_eq-refl, both, left_true, right_true, le_t
 use Rattle.amqp_ser.proofs.Joins.{join, joined, all_trees-append, uniform_arrays-join, within_limits-join, inside-join, each-join, count-join, ranged-join, ranged-left}
 use Rattle.amqp_ser.proofs.Last.{last_off, paired-last}
 use Rattle.amqp_ser.proofs.Pairing.{even}
-use Rattle.amqp_pass.specs.Position.{position_of, meant, without_prefix, limit_of, resolved_kind_of, is_array, is_gathered, element, next, suits, form}
+use Rattle.amqp_size.specs.Position.{position_of, meant, without_prefix, limit_of, resolved_kind_of, is_array, is_gathered, element, next, suits, form}
 use Rattle.amqp_size.specs.SizeSerializer.{AtPosition, Counted, HoldsGathered, body_bytes, counts, one_in, inner_position_of}
-use Rattle.amqp_pass.specs.AddPart.{constructor_len, constructor_len_in, PassesLimit}
-use Rattle.amqp_pass.specs.WholePosition.{Position}
-use Rattle.amqp_pass.specs.WholeContext.{Context}
-use Rattle.amqp_pass.specs.WholeContext as context
+use Rattle.amqp_size.specs.AddPart.{constructor_len, constructor_len_in, PassesLimit}
+use Rattle.amqp_size.specs.WholePosition.{Position}
+use Rattle.amqp_size.specs.WholeContext.{Context}
+use Rattle.amqp_size.specs.WholeContext as context
 use Rattle.amqp_size.specs.declared.serializer.SizeSerializer.{SizeSerializer}
-use Rattle.amqp_pass.specs.declared.open_compound.OpenCompound.{OpenCompound}
+use Rattle.amqp_size.specs.declared.open_compound.OpenCompound.{OpenCompound}
 use Rattle.amqp_size.proofs.Joined.{body_bytes-join, rest_of, some_con}
 use Rattle.amqp_size.proofs.Positions.{within_inner, extent_inner, gathered_limit}
 use Rattle.amqp_size.proofs.Refusing.{over_part}

@@ -1,22 +1,22 @@
 -- What positions require of a tree, and what an error at a position says about it.
 use Rattle.std.proofs.Common.{◌≡◌, ℕ, ◌+◌, Option, Some, None, Bool, true, false, Err, length, refl, ◌∙◌, is_some}
-use Rattle.amqp_pass.specs.declared.size_error.SizeError.{SizeError}
-use Rattle.amqp_pass.specs.declared.size_error.SizeError.TheVariants as error
+use Rattle.amqp_size.specs.declared.size_error.SizeError.{SizeError}
+use Rattle.amqp_size.specs.declared.size_error.SizeError.TheVariants as error
 use Rattle.amqp_ser.specs.Tree.{Tree, Trees, scalar, list, array, map, described, variant, lazy, transparent, no_trees, more}
 use Rattle.amqp_ser.specs.Limits.{is_length}
 use Rattle.amqp_ser.specs.Encoding.{encoding, constructor}
 use Rattle.amqp_ser.specs.Writable.{same_constructor, within_limits, inside, placed}
 use Rattle.amqp_ser.specs.Composites.{descriptor_of}
-use Rattle.amqp_pass.specs.Refused.{refuses_none}
+use Rattle.amqp_size.specs.Refused.{refuses_none}
 use Rattle.amqp_ser.proofs.Bools.{right_false}
-use Rattle.amqp_pass.specs.Position.{meant, without_prefix, suits, element, form, extent, within_limits_at, takes_described, is_gathered, limit_of}
+use Rattle.amqp_size.specs.Position.{meant, without_prefix, suits, element, form, extent, within_limits_at, takes_described, is_gathered, limit_of}
 use Rattle.amqp_size.specs.SizeSerializer.{AtPosition, refused, inner_position_of}
-use Rattle.amqp_pass.specs.WholePosition.{Position}
-use Rattle.amqp_pass.specs.WholePosition.{Root, InCompound, FirstElement, OtherElement, Descriptor, Value}
-use Rattle.amqp_pass.specs.WholeContext.{Context}
-use Rattle.amqp_pass.specs.WholeContext as context
-use Rattle.amqp_pass.specs.declared.resolved_kind.ResolvedKind.{ResolvedKind}
-use Rattle.amqp_pass.specs.declared.resolved_kind.ResolvedKind.TheVariants as resolved_kind
+use Rattle.amqp_size.specs.WholePosition.{Position}
+use Rattle.amqp_size.specs.WholePosition.{Root, InCompound, FirstElement, OtherElement, Descriptor, Value}
+use Rattle.amqp_size.specs.WholeContext.{Context}
+use Rattle.amqp_size.specs.WholeContext as context
+use Rattle.amqp_size.specs.declared.resolved_kind.ResolvedKind.{ResolvedKind}
+use Rattle.amqp_size.specs.declared.resolved_kind.ResolvedKind.TheVariants as resolved_kind
 
 -- A tree that exceeds a limit exceeds it at every position.
 pub long_at : (p : Position) (t : Tree) → within_limits t ≡ false → within_limits_at p t ≡ false

@@ -1,7 +1,7 @@
 -- A part that fails, and a part that exceeds a limit.
 use Rattle.std.proofs.Common.{◌≡◌, ℕ, ◌+◌, List, ◌∷◌, ◌++◌, Option, Some, None, Bool, true, false, ◌&&◌, Err, length, refl, ap, sym, ◌∙◌, subst, arith, ◌⊎◌, inl, inr, is_some}
-use Rattle.amqp_pass.specs.declared.size_error.SizeError.{SizeError}
-use Rattle.amqp_pass.specs.declared.size_error.SizeError.TheVariants as error
+use Rattle.amqp_size.specs.declared.size_error.SizeError.{SizeError}
+use Rattle.amqp_size.specs.declared.size_error.SizeError.TheVariants as error
 use Rattle.amqp_ser.specs.Tree.{Tree, Trees, no_trees, more, count}
 use Rattle.amqp_ser.specs.Limits.{fits, is_count}
 use Rattle.amqp_ser.specs.Encoding.{constructor}
@@ -10,13 +10,13 @@ use Rattle.amqp_ser.specs.Compounds.{tree_of_parts}
 use Rattle.amqp_ser.specs.declared.kind.CompoundKind.{CompoundKind}
 use Rattle.amqp_ser.proofs.Bools.{left_false, right_false, one_false, left_true, le_false}
 use Rattle.amqp_ser.proofs.Joins.{join, uniform_arrays-join, within_limits-join, inside-join, each-join, count-join}
-use Rattle.amqp_pass.specs.Position.{position_of, meant, without_prefix, is_array, element, next, suits, form}
+use Rattle.amqp_size.specs.Position.{position_of, meant, without_prefix, is_array, element, next, suits, form}
 use Rattle.amqp_size.specs.SizeSerializer.{AtPosition, refused, HoldsGathered, body_bytes, counts, one_in, inner_position_of}
-use Rattle.amqp_pass.specs.AddPart.{constructor_len, PassesLimit}
-use Rattle.amqp_pass.specs.WholeContext.{Context}
-use Rattle.amqp_pass.specs.WholeContext as context
+use Rattle.amqp_size.specs.AddPart.{constructor_len, PassesLimit}
+use Rattle.amqp_size.specs.WholeContext.{Context}
+use Rattle.amqp_size.specs.WholeContext as context
 use Rattle.amqp_size.specs.declared.serializer.SizeSerializer.{SizeSerializer}
-use Rattle.amqp_pass.specs.declared.open_compound.OpenCompound.{OpenCompound}
+use Rattle.amqp_size.specs.declared.open_compound.OpenCompound.{OpenCompound}
 use Rattle.amqp_size.proofs.Joined.{body_bytes-join, some_con}
 use Rattle.amqp_size.proofs.Positions.{within_inner, refused-none}
 use Rattle.amqp_size.proofs.Spoil.{bad_in, with_rest}

@@ -1,17 +1,17 @@
 -- A serializer at the root.
 use Rattle.std.proofs.Common.{◌≡◌, ℕ, Option, Some, None, ◌&&◌, Result, Ok, Err, subst}
-use Rattle.amqp_pass.specs.declared.size_error.SizeError.{SizeError}
-use Rattle.amqp_pass.specs.declared.size_error.SizeError.TheVariants as size_error
+use Rattle.amqp_size.specs.declared.size_error.SizeError.{SizeError}
+use Rattle.amqp_size.specs.declared.size_error.SizeError.TheVariants as size_error
 use Rattle.amqp_ser.specs.Tree.{Tree}
 use Rattle.amqp_ser.specs.Writable.{uniform_arrays, within_limits, placed}
 use Rattle.amqp_ser.specs.SizeAndBytes.{IsSizeOf}
 use Rattle.amqp_ser.proofs.Bools.{both}
-use Rattle.amqp_pass.specs.Position.{position_of, meant}
-use Rattle.amqp_pass.specs.Refused.{told}
+use Rattle.amqp_size.specs.Position.{position_of, meant}
+use Rattle.amqp_size.specs.Refused.{told}
 use Rattle.amqp_size.specs.SizeSerializer.{AtPosition, SizePermits}
-use Rattle.amqp_pass.specs.WholePosition.{Root}
-use Rattle.amqp_pass.specs.WholeContext.{Context}
-use Rattle.amqp_pass.specs.WholeContext.{Plain}
+use Rattle.amqp_size.specs.WholePosition.{Root}
+use Rattle.amqp_size.specs.WholeContext.{Context}
+use Rattle.amqp_size.specs.WholeContext.{Plain}
 use Rattle.amqp_size.specs.declared.serializer.SizeSerializer.{SizeSerializer}
 
 root_size : (o : Option Tree) (r : Result ℕ SizeError) (after : Context) → AtPosition Root o r after → IsSizeOf o (told r) × (after ≡ Plain Root)

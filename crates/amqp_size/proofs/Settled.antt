@@ -3,19 +3,19 @@
 use Rattle.std.proofs.Common.{◌≡◌, ℕ, ◌+◌, ◌<◌, Option, Some, None, Bool, true, false, Ok, refl, ap, ◌∙◌}
 use Rattle.amqp_ser.specs.Tree.{Tree}
 use Rattle.amqp_ser.specs.Encoding.{constructor}
-use Rattle.amqp_pass.specs.Position.{base_position, element, next}
+use Rattle.amqp_size.specs.Position.{base_position, element, next}
 use Rattle.amqp_size.specs.SizeSerializer.{AtPosition}
-use Rattle.amqp_pass.specs.State.{position_at, context_at}
-use Rattle.amqp_pass.specs.WholePosition.{Position}
-use Rattle.amqp_pass.specs.WholePosition as position
-use Rattle.amqp_pass.specs.WholeContext.{Context}
-use Rattle.amqp_pass.specs.WholeContext as context
-use Rattle.amqp_pass.specs.declared.position.BasePosition.{BasePosition}
-use Rattle.amqp_pass.specs.declared.position.BasePosition.TheVariants as base
-use Rattle.amqp_pass.specs.declared.position.Position.{Position as KeptPosition}
-use Rattle.amqp_pass.specs.declared.position.Position.TheVariants as kept
-use Rattle.amqp_pass.specs.declared.context.Context.{Context as KeptContext}
-use Rattle.amqp_pass.specs.declared.context.Context.TheVariants as kept_context
+use Rattle.amqp_size.specs.State.{position_at, context_at}
+use Rattle.amqp_size.specs.WholePosition.{Position}
+use Rattle.amqp_size.specs.WholePosition as position
+use Rattle.amqp_size.specs.WholeContext.{Context}
+use Rattle.amqp_size.specs.WholeContext as context
+use Rattle.amqp_size.specs.declared.position.BasePosition.{BasePosition}
+use Rattle.amqp_size.specs.declared.position.BasePosition.TheVariants as base
+use Rattle.amqp_size.specs.declared.position.Position.{Position as KeptPosition}
+use Rattle.amqp_size.specs.declared.position.Position.TheVariants as kept
+use Rattle.amqp_size.specs.declared.context.Context.{Context as KeptContext}
+use Rattle.amqp_size.specs.declared.context.Context.TheVariants as kept_context
 
 abbrev is_alone : Position → Bool
 is_alone (position.Value h b) = false

@@ -1,19 +1,19 @@
 -- An open single compound.
 use Rattle.std.proofs.Common.{◌≡◌, ℕ, ◌≤◌, List, [], ◌∷◌, ◌++◌, Option, Some, None, Ok, Err, refl, ap, sym, ◌∙◌, subst, arith}
-use Rattle.amqp_pass.specs.declared.size_error.SizeError.{SizeError}
-use Rattle.amqp_pass.specs.declared.size_error.SizeError.TheVariants as error
+use Rattle.amqp_size.specs.declared.size_error.SizeError.{SizeError}
+use Rattle.amqp_size.specs.declared.size_error.SizeError.TheVariants as error
 use Rattle.amqp_ser.specs.Tree.{Tree, Trees}
 use Rattle.amqp_ser.specs.Compounds.{all_trees, prepend, as_kind, tree_of_parts}
-use Rattle.amqp_pass.specs.Refused.{refuses_none}
+use Rattle.amqp_size.specs.Refused.{refuses_none}
 use Rattle.amqp_ser.specs.declared.kind.CompoundKind.{CompoundKind}
 use Rattle.amqp_ser.specs.declared.kind.CompoundKind.TheVariants as kinds
-use Rattle.amqp_pass.specs.Position.{position_of, meant, without_prefix, resolved_kind_of}
+use Rattle.amqp_size.specs.Position.{position_of, meant, without_prefix, resolved_kind_of}
 use Rattle.amqp_size.specs.SizeSerializer.{AtPosition, HoldsSingle}
-use Rattle.amqp_pass.specs.WholeContext.{Context}
-use Rattle.amqp_pass.specs.WholeContext as context
-use Rattle.amqp_pass.specs.declared.resolved_kind.ResolvedKind.TheVariants as resolved_kinds
+use Rattle.amqp_size.specs.WholeContext.{Context}
+use Rattle.amqp_size.specs.WholeContext as context
+use Rattle.amqp_size.specs.declared.resolved_kind.ResolvedKind.TheVariants as resolved_kinds
 use Rattle.amqp_size.specs.declared.serializer.SizeSerializer.{SizeSerializer}
-use Rattle.amqp_pass.specs.declared.open_compound.OpenCompound.{OpenCompound}
+use Rattle.amqp_size.specs.declared.open_compound.OpenCompound.{OpenCompound}
 use Rattle.amqp_ser.proofs.Single.{whole_single}
 use Rattle.amqp_size.proofs.Positions.{meant_none, refusal}
 use Rattle.amqp_size.proofs.Whole.{stands_none}

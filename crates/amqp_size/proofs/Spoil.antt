@@ -1,28 +1,28 @@
 -- Parts for which every compound that contains them fails.
 use Rattle.std.proofs.Common.{◌≡◌, ℕ, ◌+◌, ◌<◌, List, [], ◌∷◌, ◌++◌, Option, Some, None, Bool, true, false, not, ◌&&◌, Err, length, refl, ap, sym, ◌∙◌, subst, arith, length-append, inl, inr}
 use Rattle.std.proofs.lemmas.Bool.{not-true, not-false}
-use Rattle.amqp_pass.specs.declared.size_error.SizeError.{SizeError}
-use Rattle.amqp_pass.specs.declared.size_error.SizeError.TheVariants as error
+use Rattle.amqp_size.specs.declared.size_error.SizeError.{SizeError}
+use Rattle.amqp_size.specs.declared.size_error.SizeError.TheVariants as error
 use Rattle.amqp_ser.specs.Tree.{uint, Tree, Trees, list, array, map, variant, no_trees, more}
 use Rattle.amqp_ser.specs.Limits.{fits, is_count}
 use Rattle.amqp_ser.specs.Scalars.{scalar_form}
 use Rattle.amqp_ser.specs.Encoding.{encoding, encoding_each}
 use Rattle.amqp_ser.specs.Writable.{one_constructor, uniform_arrays, uniform_arrays_each, uniform_arrays_pairs, within_limits, within_limits_each, within_limits_pairs, inside, inside_each, inside_pairs, placed}
 use Rattle.amqp_ser.specs.Compounds.{all_trees, prepend, as_kind, as_map, as_variant, in_pairs, only, tree_of_parts}
-use Rattle.amqp_pass.specs.Refused.{refuses_none}
+use Rattle.amqp_size.specs.Refused.{refuses_none}
 use Rattle.amqp_ser.specs.declared.kind.CompoundKind.{CompoundKind}
 use Rattle.amqp_ser.specs.declared.kind.CompoundKind.TheVariants as kinds
 use Rattle.amqp_ser.proofs.Bools.{and_assoc, left_false, right_false, one_false, le_false, not_le}
 use Rattle.amqp_ser.proofs.Joins.{join, joined, all_trees-append, kind_none}
 use Rattle.amqp_ser.proofs.Pairing.{pairing, even}
-use Rattle.amqp_pass.specs.Position.{position_of, meant, without_prefix, resolved_kind_of, is_array, is_gathered, suits}
+use Rattle.amqp_size.specs.Position.{position_of, meant, without_prefix, resolved_kind_of, is_array, is_gathered, suits}
 use Rattle.amqp_size.specs.SizeSerializer.{AtPosition, HoldsGathered, body_bytes, counts, one_in}
-use Rattle.amqp_pass.specs.WholePosition.{Position}
-use Rattle.amqp_pass.specs.WholeContext.{Context}
-use Rattle.amqp_pass.specs.WholeContext as context
-use Rattle.amqp_pass.specs.declared.resolved_kind.ResolvedKind.TheVariants as resolved_kind
+use Rattle.amqp_size.specs.WholePosition.{Position}
+use Rattle.amqp_size.specs.WholeContext.{Context}
+use Rattle.amqp_size.specs.WholeContext as context
+use Rattle.amqp_size.specs.declared.resolved_kind.ResolvedKind.TheVariants as resolved_kind
 use Rattle.amqp_size.specs.declared.serializer.SizeSerializer.{SizeSerializer}
-use Rattle.amqp_pass.specs.declared.open_compound.OpenCompound.{OpenCompound}
+use Rattle.amqp_size.specs.declared.open_compound.OpenCompound.{OpenCompound}
 use Rattle.amqp_size.proofs.Positions.{long_at, not_inside, meant_none}
 use Rattle.amqp_size.proofs.Whole.{stands_none, refused_shape}
 

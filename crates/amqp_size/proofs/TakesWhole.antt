@@ -5,12 +5,12 @@ use Rattle.amqp_ser.specs.Tree.{Tree, scalar, list, array, map, described, varia
 use Rattle.amqp_ser.specs.Encoding.{encoding}
 use Rattle.amqp_ser.specs.Ranged.{IsRanged}
 use Rattle.amqp_ser.specs.Writable.{within_limits, uniform_arrays, inside, placed}
-use Rattle.amqp_pass.specs.Position.{position_of, meant}
-use Rattle.amqp_pass.specs.WholePosition.{Root, InCompound, FirstElement, OtherElement, Descriptor, Value}
-use Rattle.amqp_pass.specs.WholeContext.{Context}
-use Rattle.amqp_pass.specs.WholeContext as context
+use Rattle.amqp_size.specs.Position.{position_of, meant}
+use Rattle.amqp_size.specs.WholePosition.{Root, InCompound, FirstElement, OtherElement, Descriptor, Value}
+use Rattle.amqp_size.specs.WholeContext.{Context}
+use Rattle.amqp_size.specs.WholeContext as context
 use Rattle.amqp_size.specs.SizeSerializer.{AtPosition, SizePermits, TakesWhole}
-use Rattle.amqp_pass.specs.declared.size_error.SizeError.{SizeError}
+use Rattle.amqp_size.specs.declared.size_error.SizeError.{SizeError}
 use Rattle.amqp_size.specs.declared.serializer.SizeSerializer.{SizeSerializer}
 
 placed_inside : (t : Tree) → inside t ≡ true → placed t ≡ true

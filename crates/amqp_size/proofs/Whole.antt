@@ -1,6 +1,6 @@
 -- The tree of a compound that has ended.
 use Rattle.std.proofs.Common.{◌≡◌, ℕ, ◌+◌, ◌*◌, List, ◌++◌, Option, Some, None, true, false, Result, length, refl, ap, sym, ◌∙◌, subst, arith}
-use Rattle.amqp_pass.specs.declared.size_error.SizeError.{SizeError}
+use Rattle.amqp_size.specs.declared.size_error.SizeError.{SizeError}
 use Rattle.amqp_ser.specs.Tree.{uint, Tree, Trees, Pairs, list, map, variant, count, pair_count}
 use Rattle.amqp_ser.specs.Limits.{fits}
 use Rattle.amqp_ser.specs.Scalars.{scalar_form}
@@ -14,17 +14,17 @@ use Rattle.amqp_ser.specs.declared.kind.CompoundKind.TheVariants as kinds
 use Rattle.amqp_ser.specs.declared.marker.Marker.TheVariants as marker
 use Rattle.amqp_ser.proofs.Bools.{both}
 use Rattle.amqp_ser.proofs.Pairing.{Pairing, pairing, paired-even}
-use Rattle.amqp_pass.specs.Position.{position_of, meant, resolved_kind_of, is_array, the_marker}
+use Rattle.amqp_size.specs.Position.{position_of, meant, resolved_kind_of, is_array, the_marker}
 use Rattle.amqp_size.specs.SizeSerializer.{AtPosition, HoldsGathered, body_bytes}
-use Rattle.amqp_pass.specs.Width.{map_width, list_width, uint_width}
-use Rattle.amqp_pass.specs.WholePosition.{Position}
-use Rattle.amqp_pass.specs.WholeContext.{Context}
-use Rattle.amqp_pass.specs.WholeContext as context
-use Rattle.amqp_pass.specs.declared.scalar_marker.ScalarMarker.{ScalarMarker}
-use Rattle.amqp_pass.specs.declared.scalar_marker.ScalarMarker.TheVariants as scalar_marker
-use Rattle.amqp_pass.specs.declared.resolved_kind.ResolvedKind.TheVariants as resolved_kind
+use Rattle.amqp_size.specs.Width.{map_width, list_width, uint_width}
+use Rattle.amqp_size.specs.WholePosition.{Position}
+use Rattle.amqp_size.specs.WholeContext.{Context}
+use Rattle.amqp_size.specs.WholeContext as context
+use Rattle.amqp_size.specs.declared.scalar_marker.ScalarMarker.{ScalarMarker}
+use Rattle.amqp_size.specs.declared.scalar_marker.ScalarMarker.TheVariants as scalar_marker
+use Rattle.amqp_size.specs.declared.resolved_kind.ResolvedKind.TheVariants as resolved_kind
 use Rattle.amqp_size.specs.declared.serializer.SizeSerializer.{SizeSerializer}
-use Rattle.amqp_pass.specs.declared.open_compound.OpenCompound.{OpenCompound}
+use Rattle.amqp_size.specs.declared.open_compound.OpenCompound.{OpenCompound}
 use Rattle.amqp_size.proofs.Lengths.{length-counted, length-list_form, length-variant}
 
 -- A result for the tree under the pending marker is a result for the tree that is serialized.

@@ -1,25 +1,25 @@
 -- The permitted results of the size serializer, and the parts of an open compound.
 use Rattle.std.specs.Prelude.{◌≡◌, ℕ, List, [], ◌∷◌, ◌++◌, ◌⊎◌, Option, Some, None, Bool, true, false, ◌&&◌, Result, Ok, Err, length}
-use Rattle.amqp_pass.specs.declared.size_error.SizeError.{SizeError}
-use Rattle.amqp_pass.specs.declared.size_error.SizeError.TheVariants as error
+use Rattle.amqp_size.specs.declared.size_error.SizeError.{SizeError}
+use Rattle.amqp_size.specs.declared.size_error.SizeError.TheVariants as error
 use Rattle.amqp_ser.specs.Tree.{Tree, Trees, no_trees, more, count}
 use Rattle.amqp_ser.specs.Limits.{fits, is_count}
 use Rattle.amqp_ser.specs.Ranged.{IsRanged, AreRanged}
 use Rattle.amqp_ser.specs.Encoding.{encoding_each, payload_each, array_constructor, constructor}
 use Rattle.amqp_ser.specs.Writable.{within_limits_each, uniform_arrays, uniform_arrays_each, inside_each, one_constructor, placed_each}
 use Rattle.amqp_ser.specs.Compounds.{all_trees, paired}
-use Rattle.amqp_pass.specs.Refused.{refuses_none}
+use Rattle.amqp_size.specs.Refused.{refuses_none}
 use Rattle.amqp_ser.specs.declared.kind.CompoundKind.{CompoundKind}
 use Rattle.amqp_ser.specs.declared.kind.CompoundKind.TheVariants as kinds
-use Rattle.amqp_pass.specs.Position.{position_of, meant, without_prefix, suits, element, next, extent, within_limits_at, resolved_kind_of, is_array, is_gathered}
-use Rattle.amqp_pass.specs.WholePosition.{Position}
-use Rattle.amqp_pass.specs.WholePosition.{Root, InCompound, FirstElement, Descriptor}
-use Rattle.amqp_pass.specs.WholeContext.{Context}
-use Rattle.amqp_pass.specs.WholeContext.{Plain}
-use Rattle.amqp_pass.specs.WholeContext as context
-use Rattle.amqp_pass.specs.declared.resolved_kind.ResolvedKind.TheVariants as resolved_kinds
+use Rattle.amqp_size.specs.Position.{position_of, meant, without_prefix, suits, element, next, extent, within_limits_at, resolved_kind_of, is_array, is_gathered}
+use Rattle.amqp_size.specs.WholePosition.{Position}
+use Rattle.amqp_size.specs.WholePosition.{Root, InCompound, FirstElement, Descriptor}
+use Rattle.amqp_size.specs.WholeContext.{Context}
+use Rattle.amqp_size.specs.WholeContext.{Plain}
+use Rattle.amqp_size.specs.WholeContext as context
+use Rattle.amqp_size.specs.declared.resolved_kind.ResolvedKind.TheVariants as resolved_kinds
 use Rattle.amqp_size.specs.declared.serializer.SizeSerializer.{SizeSerializer}
-use Rattle.amqp_pass.specs.declared.open_compound.OpenCompound.{OpenCompound}
+use Rattle.amqp_size.specs.declared.open_compound.OpenCompound.{OpenCompound}
 
 -- The tree is accepted at this position and measured. It is in range.
 pub record Counted (p : Position) (t : Tree) (n : ℕ) (after : Context) : Type 0 where

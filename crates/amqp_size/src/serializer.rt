@@ -5,14 +5,18 @@ ghost use Rattle.amqp_ser.specs.Tree.{Tree};
 ghost use Rattle.amqp_ser.specs.Ends.{EndsPart, EndsDescriptor};
 ghost use Rattle.amqp_ser.specs.Composites.{descriptor_of};
 ghost use Rattle.amqp_ser.specs.SizeAndBytes.{IsSizeOf};
-ghost use Rattle.amqp_pass.specs.WholeContext.{Plain};
-ghost use Rattle.amqp_pass.specs.WholePosition as whole_position;
+ghost use Rattle.amqp_size.specs.WholeContext.{Plain};
+ghost use Rattle.amqp_size.specs.WholePosition as whole_position;
 
+use crate::context::Context;
+use crate::open_compound::OpenCompound;
+use crate::position::Position;
+use crate::resolved_kind::ResolvedKind;
+use crate::scalar_encoding::ScalarEncoding;
+use crate::scalar_marker::ScalarMarker;
+use crate::size_error::SizeError;
+use crate::width::{array_width, list_width, map_width};
 use amqp_data::{EncodingCodes, Error};
-use amqp_pass::width::{array_width, list_width, map_width};
-use amqp_pass::{
-    Context, OpenCompound, Position, ResolvedKind, ScalarEncoding, ScalarMarker, SizeError,
-};
 use amqp_ser::{CompoundKind, Fixed, Marker, Serialize, Serializer, Whole};
 use std::marker::Model;
 
@@ -41,7 +45,7 @@ pub struct SizeSerializer {
 }
 
 impl Model for SizeSerializer {
-    ghost use Rattle.amqp_pass.specs.State.{context_at, SizeState};
+    ghost use Rattle.amqp_size.specs.State.{context_at, SizeState};
 
     ghost Value = { SizeState };
 
@@ -63,8 +67,8 @@ impl SizeSerializer {
 }
 
 impl Default for SizeSerializer {
-    ghost use Rattle.amqp_pass.specs.WholeContext.{Plain};
-    ghost use Rattle.amqp_pass.specs.WholePosition.{Root};
+    ghost use Rattle.amqp_size.specs.WholeContext.{Plain};
+    ghost use Rattle.amqp_size.specs.WholePosition.{Root};
 
     ghost is_default = { λ s. s.context ≡ Plain Root };
 
@@ -74,8 +78,8 @@ impl Default for SizeSerializer {
 }
 
 impl Serializer for SizeSerializer {
-    ghost use Rattle.amqp_pass.specs.declared.size_error.SizeError.TheVariants.{InvalidValue};
-    ghost use Rattle.amqp_pass.specs.Position.{position_of, meant, without_prefix, described_context};
+    ghost use Rattle.amqp_size.specs.declared.size_error.SizeError.TheVariants.{InvalidValue};
+    ghost use Rattle.amqp_size.specs.Position.{position_of, meant, without_prefix, described_context};
     ghost use Rattle.amqp_size.specs.SizeSerializer.{SizePermits, SizeHas, SizeAwaits, SizeAwaitsDescriptor, no_count_on_none};
     ghost use Rattle.amqp_ser.specs.Compounds.{tree_of_parts, complete};
     ghost use Rattle.amqp_ser.specs.Fixed.{fixed_scalar};

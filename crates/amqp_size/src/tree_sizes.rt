@@ -7,21 +7,24 @@ ghost use Rattle.amqp_ser.specs.Limits.{fits};
 ghost use Rattle.amqp_ser.specs.Ranged.{IsRanged, AreRanged, AreBytes};
 ghost use Rattle.amqp_ser.specs.Encoding.{encoding, encoding_each, payload, constructor};
 ghost use Rattle.amqp_ser.specs.Writable.{uniform_arrays, uniform_arrays_each, within_limits, within_limits_each, inside, placed, placed_each};
-ghost use Rattle.amqp_pass.specs.Width.{uint_width, text_width, map_width};
-ghost use Rattle.amqp_pass.specs.MarkedBytes.{marked_bytes};
-ghost use Rattle.amqp_pass.specs.Position.{position_of, without_prefix};
+ghost use Rattle.amqp_size.specs.Width.{uint_width, text_width, map_width};
+ghost use Rattle.amqp_size.specs.MarkedBytes.{marked_bytes};
+ghost use Rattle.amqp_size.specs.Position.{position_of, without_prefix};
 
+use crate::context::Context;
+use crate::descriptor::{described_len, descriptor_len};
+use crate::limits::{MAX_LEN, add_within};
+use crate::position::Position;
+use crate::scalar_marker::ScalarMarker;
 use crate::serializer::SizeSerializer;
+use crate::size_error::SizeError;
+use crate::width::{map_width, text_width, uint_width};
 use amqp_data::EncodingCodes;
 use amqp_frame::is_frame;
-use amqp_pass::width::{MAX_LEN, map_width, text_width, uint_width};
-use amqp_pass::{
-    Context, Position, ScalarMarker, SizeError, add_within, described_len, descriptor_len,
-};
 
 impl SizeSerializer {
-    ghost use Rattle.amqp_pass.specs.WholeContext.{Plain};
-    ghost use Rattle.amqp_pass.specs.State.{position_at};
+    ghost use Rattle.amqp_size.specs.WholeContext.{Plain};
+    ghost use Rattle.amqp_size.specs.State.{position_at};
     ghost use Rattle.amqp_size.specs.SizeSerializer.{AtPosition};
 
     /// Clears the pending marker and descriptor.

@@ -2,8 +2,9 @@
 
 ghost use Rattle.std.specs.Prelude.{◌≡◌, true};
 
+use crate::context::Context;
+use crate::position::Position;
 use crate::serializer::SizeSerializer;
-use amqp_pass::{Context, Position};
 
 impl SizeSerializer {
     ghost use Rattle.amqp_size.specs.SizeSerializer.{TakesWhole};

@@ -8,7 +8,7 @@ use Rattle.amqp_ser.specs.Scalars.{scalar_form, scalar_payload, scalar_code}
 use Rattle.amqp_ser.specs.Encoding.{encoding, encoding_each, encoding_pairs, payload_each, array_constructor, constructor, code_list, counted, wide, list_form, array_form, descriptor_form}
 use Rattle.amqp_ser.specs.Writable.{scalar_fits, same_constructor, each_constructor, descriptor_fits}
 use Rattle.amqp_ser.proofs.Bools.{both, le_true, is_le, left_true, right_true}
-use Rattle.amqp_pass.specs.Width.{map_width, list_width, array_width}
+use Rattle.amqp_size.specs.Width.{map_width, list_width, array_width}
 use Rattle.amqp_value.specs.TreeOf.{tree_of, all_of, pairs_trees}
 use Rattle.amqp_value.specs.declared.value.Value.{Value}
 use Rattle.amqp_value.specs.Measured.{Measured, MeasuredPayload, MeasuredEach, MeasuredPayloads, MeasuredContent, MeasuredPairs, HasRange, HaveRanges, IsLength, width_for}

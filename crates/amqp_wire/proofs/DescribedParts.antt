@@ -11,8 +11,8 @@ use Rattle.amqp_ser.specs.declared.kind.CompoundKind.TheVariants as kinds
 use Rattle.amqp_ser.specs.declared.marker.Marker.TheVariants as marker
 use Rattle.amqp_ser.proofs.Bools.{both, le_true, nat_eq-refl}
 use Rattle.amqp_ser.proofs.Unmarked.{unmarked}
-use Rattle.amqp_pass.specs.declared.resolved_kind.ResolvedKind.{ResolvedKind}
-use Rattle.amqp_pass.specs.declared.resolved_kind.ResolvedKind.TheVariants as resolved
+use Rattle.amqp_size.specs.declared.resolved_kind.ResolvedKind.{ResolvedKind}
+use Rattle.amqp_size.specs.declared.resolved_kind.ResolvedKind.TheVariants as resolved
 use Rattle.amqp_wire.specs.Places.{IsOrdinary, IsDescriptorCode}
 use Rattle.amqp_wire.specs.Kept.{Kept, kept}
 use Rattle.amqp_wire.specs.When.{Promises}

@@ -14,8 +14,8 @@ use Rattle.amqp_ser.specs.declared.marker.Marker.{Marker}
 use Rattle.amqp_ser.specs.declared.marker.Marker.TheVariants as marker
 use Rattle.amqp_ser.proofs.Bools.{both, left_true, le_true}
 use Rattle.amqp_ser.proofs.Pairing.{pairing, paired-even}
-use Rattle.amqp_pass.specs.declared.resolved_kind.ResolvedKind.{ResolvedKind}
-use Rattle.amqp_pass.specs.declared.resolved_kind.ResolvedKind.TheVariants as resolved
+use Rattle.amqp_size.specs.declared.resolved_kind.ResolvedKind.{ResolvedKind}
+use Rattle.amqp_size.specs.declared.resolved_kind.ResolvedKind.TheVariants as resolved
 use Rattle.amqp_wire.specs.Forms.{form}
 use Rattle.amqp_wire.specs.Places.{is_element, Admits, Led, pick}
 use Rattle.amqp_wire.specs.Kept.{Kept, kept}

@@ -18,10 +18,10 @@ use Rattle.amqp_ser.specs.declared.fixed.Fixed.TheVariants as fixed
 use Rattle.amqp_ser.specs.declared.marker.Marker.{Marker}
 use Rattle.amqp_ser.specs.declared.marker.Marker.TheVariants as marker
 use Rattle.amqp_ser.proofs.Bools.{le_true}
-use Rattle.amqp_pass.specs.ScalarEncoding.{form_bytes, form_payload}
-use Rattle.amqp_pass.specs.declared.scalar_encoding.ScalarEncoding.{ScalarEncoding}
-use Rattle.amqp_pass.specs.MarkedBytes.{IsExact, exact_scalar, marked_bytes}
-use Rattle.amqp_pass.specs.declared.scalar_marker.ScalarMarker.{ScalarMarker}
+use Rattle.amqp_size.specs.ScalarEncoding.{form_bytes, form_payload}
+use Rattle.amqp_size.specs.declared.scalar_encoding.ScalarEncoding.{ScalarEncoding}
+use Rattle.amqp_size.specs.MarkedBytes.{IsExact, exact_scalar, marked_bytes}
+use Rattle.amqp_size.specs.declared.scalar_marker.ScalarMarker.{ScalarMarker}
 use Rattle.amqp_wire.specs.Places.{is_element, Admits, Led, pick, bytes_at, fits_place, Took}
 use Rattle.amqp_wire.specs.ScalarForms.{HasForms, IsNumber, IsText}
 use Rattle.amqp_wire.specs.When.{Promises}

@@ -7,3 +7,5 @@ mod Beginning
 mod Ending
 mod DescribedParts
 mod Rooted
+pub mod Meanings
+pub mod Parts

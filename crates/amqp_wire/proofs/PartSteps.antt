@@ -11,8 +11,8 @@ use Rattle.amqp_ser.proofs.Bools.{both, and_assoc, nat_eq-refl}
 use Rattle.amqp_ser.proofs.Joins.{join, joined, all_trees-append, encoding_each-join, payload_each-join, count-join, uniform_arrays-join, within_limits-join, each-join, inside-join, ranged-join}
 use Rattle.amqp_ser.proofs.Last.{last_off, paired-last}
 use Rattle.amqp_ser.proofs.Unmarked.{unmarked}
-use Rattle.amqp_pass.specs.declared.resolved_kind.ResolvedKind.{ResolvedKind}
-use Rattle.amqp_pass.specs.declared.resolved_kind.ResolvedKind.TheVariants as resolved
+use Rattle.amqp_size.specs.declared.resolved_kind.ResolvedKind.{ResolvedKind}
+use Rattle.amqp_size.specs.declared.resolved_kind.ResolvedKind.TheVariants as resolved
 use Rattle.amqp_wire.specs.Places.{is_element, bytes_at, fits_place, Took}
 use Rattle.amqp_wire.specs.Kept.{Kept, kept, with_count, with_part}
 use Rattle.amqp_wire.specs.When.{Promises}

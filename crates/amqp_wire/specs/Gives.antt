@@ -11,8 +11,8 @@ use Rattle.amqp_ser.specs.declared.kind.CompoundKind.{CompoundKind}
 use Rattle.amqp_ser.specs.declared.kind.CompoundKind.TheVariants as kinds
 use Rattle.amqp_ser.specs.declared.marker.Marker.{Marker}
 use Rattle.amqp_ser.specs.declared.marker.Marker.TheVariants as marker
-use Rattle.amqp_pass.specs.declared.resolved_kind.ResolvedKind.{ResolvedKind}
-use Rattle.amqp_pass.specs.declared.resolved_kind.ResolvedKind.TheVariants as resolved
+use Rattle.amqp_size.specs.declared.resolved_kind.ResolvedKind.{ResolvedKind}
+use Rattle.amqp_size.specs.declared.resolved_kind.ResolvedKind.TheVariants as resolved
 use Rattle.amqp_wire.specs.Places.{is_element, Admits, Led, bytes_at, fits_place, Took}
 use Rattle.amqp_wire.specs.declared.pass.GaveUp.{GaveUp}
 use Rattle.amqp_wire.specs.declared.pass.Pass.{Pass}

@@ -4,8 +4,8 @@ use Rattle.amqp_ser.specs.declared.kind.CompoundKind.{CompoundKind}
 use Rattle.amqp_ser.specs.declared.kind.CompoundKind.TheVariants as kinds
 use Rattle.amqp_ser.specs.declared.marker.Marker.{Marker}
 use Rattle.amqp_ser.specs.declared.marker.Marker.TheVariants as marker
-use Rattle.amqp_pass.specs.declared.resolved_kind.ResolvedKind.{ResolvedKind}
-use Rattle.amqp_pass.specs.declared.resolved_kind.ResolvedKind.TheVariants as resolved
+use Rattle.amqp_size.specs.declared.resolved_kind.ResolvedKind.{ResolvedKind}
+use Rattle.amqp_size.specs.declared.resolved_kind.ResolvedKind.TheVariants as resolved
 use Rattle.amqp_wire.specs.declared.pass_compound.PassCompound.{PassCompound}
 use Rattle.amqp_wire.specs.declared.place.Place.{Place}
 use Rattle.amqp_wire.specs.declared.sink.Opened.{Opened}

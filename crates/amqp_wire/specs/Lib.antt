@@ -1,9 +1,11 @@
--- Definitions that the contracts of the public items `to_vec`, `append` and `to_lazy_value` use,
--- besides those of `amqp_ser`.
+-- Definitions that the contracts of public items use, besides those of `amqp_ser`.
 pub mod ResultBytes
 pub mod Appended
 pub mod LazyOf
--- Definitions that only private clauses use: what a pass that may give up permits.
+pub mod EmptyArrays
+pub mod Strict
+-- Definitions that only private clauses use: what a pass that may give up permits, and the search
+-- for arrays without elements.
 pub mod When
 pub mod Places
 pub mod Kept
@@ -11,3 +13,5 @@ pub mod Forms
 pub mod Gives
 pub mod ScalarForms
 pub mod Encoded
+pub mod Pending
+pub mod Finder

@@ -9,8 +9,8 @@ use Rattle.amqp_ser.specs.Scalars.{scalar_code, scalar_form, scalar_payload, siz
 use Rattle.amqp_ser.specs.Writable.{scalar_fits}
 use Rattle.amqp_ser.specs.declared.fixed.Fixed.{Fixed}
 use Rattle.amqp_ser.specs.declared.marker.Marker.{Marker}
-use Rattle.amqp_pass.specs.ScalarEncoding.{form_bytes, form_payload}
-use Rattle.amqp_pass.specs.declared.scalar_encoding.ScalarEncoding.{ScalarEncoding}
+use Rattle.amqp_size.specs.ScalarEncoding.{form_bytes, form_payload}
+use Rattle.amqp_size.specs.declared.scalar_encoding.ScalarEncoding.{ScalarEncoding}
 use Rattle.amqp_wire.specs.Gives.{marked}
 
 -- The forms of a scalar.

@@ -8,8 +8,8 @@ ghost use Rattle.std.specs.Prelude.{◌≡◌, ◌≤◌, ◌++◌, ◌∷◌, t
 use crate::header::{long_header, short_header};
 use crate::hints::Hints;
 use crate::sink::{HeaderKind, Mark, Opened, Sink};
-use amqp_pass::width::{MAX_COUNT, MAX_LEN};
 use amqp_ser::Whole;
+use amqp_size::width::{MAX_COUNT, MAX_LEN};
 
 /// Appends bytes within the capacity of a buffer, with hints.
 #[derive(Drop)]

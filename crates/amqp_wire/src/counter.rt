@@ -5,8 +5,8 @@ ghost use Rattle.amqp_wire.specs.Forms.{header_length, CountsTo};
 
 use crate::hints::Hints;
 use crate::sink::{HeaderKind, Mark, Opened, Sink};
-use amqp_pass::width::{MAX_COUNT, MAX_LEN};
 use amqp_ser::Whole;
+use amqp_size::width::{MAX_COUNT, MAX_LEN};
 
 /// Counts bytes, and notes a hint for each compound.
 #[derive(Drop)]

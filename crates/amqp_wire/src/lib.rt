@@ -5,12 +5,21 @@
 //! buffer is allocated, and the second pass writes into it without allocating, and compares each
 //! compound with its hint. Unless an allocation fails, `to_vec` succeeds if and only if the tree of
 //! the value is writable, and returns the encoding of the tree.
+//!
+//! `append_to` appends the encoding to a vector. An `Encoder` encodes one value after another and
+//! allocates nothing once its buffers are large enough. Both write the bytes of `to_vec`.
+//!
+//! An array without elements is encoded without a constructor (`e00100`), since no element
+//! determines one. Some implementations refuse it. `has_empty_array` returns whether a value has
+//! one, and `to_vec_strict` refuses to encode such a value.
 #![tactic(auto)]
 
 mod appender;
 mod appending;
 mod counter;
 mod encode;
+mod encoder;
+mod finder;
 mod header;
 mod hints;
 mod lazy_value;
@@ -19,13 +28,19 @@ mod pass_begin;
 mod pass_compound;
 mod pass_serializer;
 mod passes;
+mod pending;
 mod place;
 mod put;
 mod scalar_forms;
+mod search;
 mod sink;
+mod strict;
 
-pub use appending::append;
+pub use appending::append_to;
 pub use encode::to_vec;
+pub use encoder::Encoder;
 pub use hints::Hints;
 pub use lazy_value::to_lazy_value;
 pub use passes::{append_value, error_of, measure};
+pub use search::has_empty_array;
+pub use strict::to_vec_strict;

@@ -7,15 +7,15 @@ ghost use Rattle.amqp_ser.specs.Limits.{fits};
 ghost use Rattle.amqp_ser.specs.Ranged.{AreBytes, IsRangedScalar};
 ghost use Rattle.amqp_ser.specs.Scalars.{scalar_code, scalar_form, scalar_payload, sized};
 ghost use Rattle.amqp_ser.specs.Writable.{scalar_fits};
-ghost use Rattle.amqp_pass.specs.MarkedBytes.{marked_bytes};
+ghost use Rattle.amqp_size.specs.MarkedBytes.{marked_bytes};
 ghost use Rattle.amqp_wire.specs.Places.{is_element, Admits, IsOrdinary, Led};
 
 use crate::place::{Place, is_descriptor_code};
 use crate::put::{put_exact, put_number, put_text};
 use crate::sink::{HeaderKind, Opened, Sink};
 use amqp_frame::is_frame;
-use amqp_pass::{ScalarEncoding, ScalarMarker};
 use amqp_ser::Marker;
+use amqp_size::{ScalarEncoding, ScalarMarker};
 
 /// The pass gave up on a value. A serializer then finds the error.
 #[derive(Clone, Copy, Debug)]

@@ -13,8 +13,8 @@ use crate::place::Place;
 use crate::put::put_index;
 use crate::sink::{HeaderKind, Opened, Sink};
 use amqp_data::EncodingCodes;
-use amqp_pass::ResolvedKind;
 use amqp_ser::{CompoundKind, Marker};
+use amqp_size::ResolvedKind;
 
 /// Returns whether a compound is a list, a map or an array.
 #[inline(always)]

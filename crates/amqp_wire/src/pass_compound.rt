@@ -6,8 +6,8 @@ ghost use Rattle.amqp_wire.specs.Kept.{kept, resolve};
 
 use crate::place::Place;
 use crate::sink::{Mark, Opened};
-use amqp_pass::ResolvedKind;
 use amqp_ser::{CompoundKind, Marker};
+use amqp_size::ResolvedKind;
 
 /// A compound that a pass has open.
 #[derive(Drop)]

@@ -10,8 +10,8 @@ use crate::place::Place;
 use crate::scalar_forms::{number_forms, text_codes};
 use crate::sink::{HeaderKind, Sink};
 use amqp_data::EncodingCodes;
-use amqp_pass::{ResolvedKind, ScalarMarker};
 use amqp_ser::{CompoundKind, Fixed, Marker, Serializer, Whole};
+use amqp_size::{ResolvedKind, ScalarMarker};
 
 impl<K: Sink> Serializer for Pass<K> {
     ghost use Rattle.amqp_wire.specs.Gives.{Gives, nothing_of_none, Has, Awaits, AwaitsDescriptor};

@@ -5,13 +5,13 @@ ghost use Rattle.std.specs.Int.{w32, to_be_bytes};
 ghost use Rattle.amqp_ser.specs.Limits.{fits, is_short};
 ghost use Rattle.amqp_ser.specs.Scalars.{scalar_form, sized};
 ghost use Rattle.amqp_ser.specs.Tree.{uint};
-ghost use Rattle.amqp_pass.specs.ScalarEncoding.{form_bytes, form_payload};
+ghost use Rattle.amqp_size.specs.ScalarEncoding.{form_bytes, form_payload};
 ghost use Rattle.amqp_wire.specs.Places.{pick};
 
 use crate::sink::Sink;
-use amqp_pass::ScalarEncoding;
-use amqp_pass::width::MAX_LEN;
 use amqp_ser::Fixed;
+use amqp_size::ScalarEncoding;
+use amqp_size::width::MAX_LEN;
 
 /// Puts a format code and a number.
 #[inline(always)]

@@ -5,8 +5,8 @@ ghost use Rattle.std.specs.Str.{IsUtf8};
 ghost use Rattle.amqp_wire.specs.ScalarForms.{IsNumber, IsText};
 
 use amqp_data::EncodingCodes;
-use amqp_pass::ScalarEncoding;
 use amqp_ser::{Fixed, Marker};
+use amqp_size::ScalarEncoding;
 
 /// The form of a number in an array, and the form elsewhere.
 #[derive(Clone, Copy, Debug)]

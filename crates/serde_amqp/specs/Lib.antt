@@ -50,10 +50,10 @@ pub use Rattle.amqp_ser.specs.Words
 pub use Rattle.amqp_ser.specs.Writable
 pub use Rattle.amqp_ser.specs.declared.kind.CompoundKind
 pub use Rattle.amqp_ser.specs.declared.marker.Marker
-pub use Rattle.amqp_pass.specs.Width
+pub use Rattle.amqp_size.specs.Width
 pub use Rattle.amqp_wire.specs.Appended
-pub use Rattle.amqp_strict.specs.EmptyArrays
-pub use Rattle.amqp_strict.specs.Strict
+pub use Rattle.amqp_wire.specs.EmptyArrays
+pub use Rattle.amqp_wire.specs.Strict
 pub use Rattle.amqp_value.specs.Image
 pub use Rattle.amqp_value.specs.Plain
 pub use Rattle.amqp_value.specs.Sound

@@ -38,17 +38,15 @@ mod write;
 mod writers;
 
 pub use amqp_data::Error;
-pub use amqp_encode::{Encoder, append_to};
 pub use amqp_from_slice::{
     Limits, SliceError, from_reader, from_reader_limited, from_slice, from_slice_limited,
     from_slice_located, from_slice_with, round_trip_bytes,
 };
 pub use amqp_from_value::{ReadError, from_value, from_value_located};
 pub use amqp_size::serialized_size;
-pub use amqp_strict::{has_empty_array, to_vec_strict};
 pub use amqp_to_value::to_value;
 pub use amqp_value::Value;
-pub use amqp_wire::to_vec;
+pub use amqp_wire::{Encoder, append_to, has_empty_array, to_vec, to_vec_strict};
 pub use cut::run_cut;
 pub use encoded::write_to;
 pub use lines::run_lines;

@@ -14,7 +14,7 @@ ghost use Rattle.amqp_ser.specs.Scalars.{scalar_form, sized};
 ghost use Rattle.amqp_value.specs.Wrote.{Grows};
 
 use amqp_data::{Descriptor, EncodingCodes};
-use amqp_pass::width::MAX_LEN;
+use amqp_size::width::MAX_LEN;
 
 /// Appends a few bytes, one by one.
 #[inline(always)]

@@ -6,7 +6,7 @@ ghost use Rattle.amqp_value.specs.Wrote.{Grows, counted_header, list_header, arr
 
 use crate::whole::append::put_few;
 use amqp_data::EncodingCodes;
-use amqp_pass::width::{MAX_COUNT, MAX_LEN};
+use amqp_size::width::{MAX_COUNT, MAX_LEN};
 
 /// Appends the size and the count of a compound in four bytes each, for a body of `len` bytes.
 #[inline(always)]

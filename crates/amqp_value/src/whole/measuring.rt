@@ -20,7 +20,7 @@ use crate::whole::sizes::{
     list_size, long_size, map_size, text_payload_size, text_size, uint_size, ulong_size,
 };
 use amqp_data::Described;
-use amqp_pass::width::MAX_COUNT;
+use amqp_size::width::MAX_COUNT;
 
 /// Returns the length of the encoding of a value.
 #[inline(always)]

@@ -8,12 +8,12 @@ ghost use Rattle.amqp_ser.specs.Limits.{fits};
 ghost use Rattle.amqp_ser.specs.Ranged.{IsRangedDescriptor};
 ghost use Rattle.amqp_ser.specs.Scalars.{scalar_form};
 ghost use Rattle.amqp_ser.specs.Writable.{descriptor_fits};
-ghost use Rattle.amqp_pass.specs.Width.{text_width, map_width, list_width, array_width};
+ghost use Rattle.amqp_size.specs.Width.{text_width, map_width, list_width, array_width};
 ghost use Rattle.amqp_value.specs.Measured.{IsLength};
 
 use crate::whole::ranges::read_text;
 use amqp_data::Descriptor;
-use amqp_pass::width::{MAX_COUNT, MAX_LEN};
+use amqp_size::width::{MAX_COUNT, MAX_LEN};
 
 /// The result for a value that is not measured.
 pub(crate) const NOT_MEASURED: usize = usize::MAX;

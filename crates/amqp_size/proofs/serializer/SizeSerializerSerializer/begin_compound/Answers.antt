@@ -2,14 +2,14 @@ use Rattle.std.proofs.Common.{◌≡◌, [], Bool, true, false, length, refl, sy
 use Rattle.amqp_ser.specs.Tree.{no_trees}
 use Rattle.amqp_ser.specs.Limits.{fits, is_count}
 use Rattle.amqp_ser.specs.declared.kind.CompoundKind.{CompoundKind}
-use Rattle.amqp_pass.specs.Position.{position_of, without_prefix, resolved_kind_of, is_array, is_gathered, inner_context_of}
-use Rattle.amqp_pass.specs.State.{context_at}
+use Rattle.amqp_size.specs.Position.{position_of, without_prefix, resolved_kind_of, is_array, is_gathered, inner_context_of}
+use Rattle.amqp_size.specs.State.{context_at}
 use Rattle.amqp_size.specs.SizeSerializer.{body_bytes, counts, one_in, inner_position_of, Holding, HoldsGathered}
-use Rattle.amqp_pass.specs.declared.open_compound.OpenCompound.{OpenCompound}
-use Rattle.amqp_pass.specs.declared.resolved_kind.ResolvedKind.{ResolvedKind}
-use Rattle.amqp_pass.specs.declared.resolved_kind.ResolvedKind.TheVariants as resolved_kinds
-use Rattle.amqp_pass.specs.WholeContext.{Context}
-use Rattle.amqp_pass.specs.WholeContext.{Plain}
+use Rattle.amqp_size.specs.declared.open_compound.OpenCompound.{OpenCompound}
+use Rattle.amqp_size.specs.declared.resolved_kind.ResolvedKind.{ResolvedKind}
+use Rattle.amqp_size.specs.declared.resolved_kind.ResolvedKind.TheVariants as resolved_kinds
+use Rattle.amqp_size.specs.WholeContext.{Context}
+use Rattle.amqp_size.specs.WholeContext.{Plain}
 use Rattle.amqp_size.specs.declared.serializer.SizeSerializer.{SizeSerializer}
 use Rattle.amqp_size.proofs.Transparent.{transparent_shape}
 use Rattle.amqp_size.proofs.Single.{single_kind}

@@ -5,10 +5,10 @@ use Rattle.amqp_ser.specs.Scalars.{scalar_form}
 use Rattle.amqp_ser.specs.Encoding.{encoding}
 use Rattle.amqp_ser.specs.Writable.{within_limits}
 use Rattle.amqp_ser.specs.Compounds.{tree_of_parts, all_trees}
-use Rattle.amqp_pass.specs.Width.{map_width, list_width}
-use Rattle.amqp_pass.specs.State.{position_at}
-use Rattle.amqp_pass.specs.Position.{without_prefix, is_gathered}
-use Rattle.amqp_pass.specs.WholeContext.{Plain}
+use Rattle.amqp_size.specs.Width.{map_width, list_width}
+use Rattle.amqp_size.specs.State.{position_at}
+use Rattle.amqp_size.specs.Position.{without_prefix, is_gathered}
+use Rattle.amqp_size.specs.WholeContext.{Plain}
 use Rattle.amqp_size.proofs.Holding.{gathered_of}
 use Rattle.amqp_size.proofs.Lengths.{length-counted}
 use Rattle.amqp_size.proofs.NoTree.{open_none}

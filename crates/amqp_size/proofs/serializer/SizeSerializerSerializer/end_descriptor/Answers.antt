@@ -1,17 +1,17 @@
 use Rattle.std.proofs.Common.{◌≡◌, ℕ, [], Option, Some, true, Result, Ok, Err, MatchResult, length, sym, refl, ap, ◌∙◌, subst, inr}
-use Rattle.amqp_pass.specs.declared.size_error.SizeError.{SizeError}
+use Rattle.amqp_size.specs.declared.size_error.SizeError.{SizeError}
 use Rattle.amqp_ser.specs.Tree.{Tree, Descriptor}
 use Rattle.amqp_ser.specs.Encoding.{descriptor_form}
 use Rattle.amqp_ser.specs.Writable.{descriptor_fits}
 use Rattle.amqp_ser.specs.Ranged.{IsRangedDescriptor}
 use Rattle.amqp_ser.specs.Composites.{as_described, descriptor_of}
 use Rattle.amqp_ser.specs.declared.kind.CompoundKind.TheVariants as kinds
-use Rattle.amqp_pass.specs.Position.{position_of, meant, without_prefix, described_context}
-use Rattle.amqp_pass.specs.AddPart.{Undescribed}
+use Rattle.amqp_size.specs.Position.{position_of, meant, without_prefix, described_context}
+use Rattle.amqp_size.specs.AddPart.{Undescribed}
 use Rattle.amqp_size.specs.SizeSerializer.{AtPosition, SizeHas, SizePermits, HoldsSingle}
-use Rattle.amqp_pass.specs.WholePosition as position
-use Rattle.amqp_pass.specs.WholeContext.{Plain}
-use Rattle.amqp_pass.specs.declared.open_compound.OpenCompound.{OpenCompound}
+use Rattle.amqp_size.specs.WholePosition as position
+use Rattle.amqp_size.specs.WholeContext.{Plain}
+use Rattle.amqp_size.specs.declared.open_compound.OpenCompound.{OpenCompound}
 use Rattle.amqp_size.specs.declared.serializer.SizeSerializer.{SizeSerializer}
 use Rattle.amqp_size.proofs.Described.{counted_descriptor, described_step, described_rest, described_refusal}
 use Rattle.amqp_size.proofs.serializer.SizeSerializerSerializer.end_descriptor.Goals as goal

@@ -1,15 +1,15 @@
 use Rattle.std.proofs.Common.{◌≡◌, ◌∷◌, ◌++◌, [], List, Option, Ok, Err, Result, MatchResult, IfErr, sym, refl, ap, ◌∙◌, subst, rules}
-use Rattle.amqp_pass.specs.declared.size_error.SizeError.{SizeError}
+use Rattle.amqp_size.specs.declared.size_error.SizeError.{SizeError}
 use Rattle.amqp_ser.specs.Tree.{Tree}
 use Rattle.amqp_ser.specs.Compounds.{tree_of_parts}
 use Rattle.amqp_ser.specs.declared.kind.CompoundKind.{CompoundKind}
-use Rattle.amqp_pass.specs.Position.{position_of, meant, without_prefix}
+use Rattle.amqp_size.specs.Position.{position_of, meant, without_prefix}
 use Rattle.amqp_size.specs.SizeSerializer.{AtPosition, Holding}
-use Rattle.amqp_pass.specs.WholeContext.{Context}
-use Rattle.amqp_pass.specs.WholeContext.{Plain}
-use Rattle.amqp_pass.specs.declared.open_compound.OpenCompound.{OpenCompound}
+use Rattle.amqp_size.specs.WholeContext.{Context}
+use Rattle.amqp_size.specs.WholeContext.{Plain}
+use Rattle.amqp_size.specs.declared.open_compound.OpenCompound.{OpenCompound}
 use Rattle.amqp_size.specs.declared.serializer.SizeSerializer.{SizeSerializer}
-use Rattle.amqp_pass.specs.State.{context_at}
+use Rattle.amqp_size.specs.State.{context_at}
 use Rattle.amqp_size.proofs.Settled.{settled}
 use Rattle.amqp_size.proofs.Holding.{Taking, refused_any, taken_any}
 use Rattle.amqp_size.proofs.serializer.SizeSerializerSerializer.end_part.Goals as goal

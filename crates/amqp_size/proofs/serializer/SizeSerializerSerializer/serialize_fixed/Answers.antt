@@ -1,12 +1,12 @@
 use Rattle.std.proofs.Common.{◌≡◌, Some, refl, ap, sym, ◌∙◌, subst}
 use Rattle.amqp_ser.specs.Tree.{scalar}
 use Rattle.amqp_ser.specs.Fixed.{fixed_scalar}
-use Rattle.amqp_pass.specs.Position.{position_of, meant, without_prefix}
+use Rattle.amqp_size.specs.Position.{position_of, meant, without_prefix}
 use Rattle.amqp_size.specs.SizeSerializer.{AtPosition}
-use Rattle.amqp_pass.specs.State.{position_at, context_at}
+use Rattle.amqp_size.specs.State.{position_at, context_at}
 use Rattle.amqp_size.specs.declared.serializer.SizeSerializer.{SizeSerializer}
-use Rattle.amqp_pass.specs.WholeContext.{Context}
-use Rattle.amqp_pass.specs.WholeContext.{Plain}
+use Rattle.amqp_size.specs.WholeContext.{Context}
+use Rattle.amqp_size.specs.WholeContext.{Plain}
 use Rattle.amqp_size.proofs.Fixed.{length-ordinary, length-payload, fixed_fits}
 use Rattle.amqp_size.proofs.serializer.SizeSerializerSerializer.serialize_fixed.Goals as goal
 

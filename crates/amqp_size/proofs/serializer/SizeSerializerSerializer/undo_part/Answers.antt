@@ -1,6 +1,6 @@
 use Rattle.std.proofs.Common.{ap, sym, ◌∙◌, inl}
-use Rattle.amqp_pass.specs.Position.{without_prefix}
-use Rattle.amqp_pass.specs.WholeContext.{Plain}
+use Rattle.amqp_size.specs.Position.{without_prefix}
+use Rattle.amqp_size.specs.WholeContext.{Plain}
 use Rattle.amqp_size.proofs.Holding.{map_of}
 use Rattle.amqp_size.proofs.Part.{undone}
 use Rattle.amqp_size.proofs.serializer.SizeSerializerSerializer.undo_part.Goals as goal

@@ -3,7 +3,7 @@ use Rattle.amqp_wire.specs.Gives.{HasIn, class_of}
 use Rattle.amqp_wire.proofs.SinkLaws.{Laws, has_extends}
 use Rattle.amqp_wire.proofs.PartSteps.{undone}
 use Rattle.amqp_wire.specs.Kept.{kept}
-use Rattle.amqp_pass.specs.declared.resolved_kind.ResolvedKind.TheVariants as resolved
+use Rattle.amqp_size.specs.declared.resolved_kind.ResolvedKind.TheVariants as resolved
 use Rattle.amqp_ser.specs.declared.kind.CompoundKind.TheVariants as kinds
 use Rattle.amqp_wire.proofs.pass_serializer.PassSerializer.undo_part.Goals as goal
 
