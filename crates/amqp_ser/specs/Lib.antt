@@ -25,5 +25,4 @@ pub mod Named
 pub mod Words
 pub mod Ends
 pub mod Extends
-pub mod Headers
 pub mod Untyped

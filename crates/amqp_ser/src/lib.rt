@@ -15,7 +15,7 @@ mod composite;
 mod compound;
 mod fields;
 mod fixed;
-mod header;
+mod hint;
 mod impls;
 mod kind;
 pub mod laws;
@@ -42,7 +42,7 @@ pub use compound::{
 };
 pub use fields::{Field, Fields, Keys};
 pub use fixed::Fixed;
-pub use header::Header;
+pub use hint::Hint;
 pub use kind::CompoundKind;
 pub use marker::{Marker, marker_named};
 pub use name::Name;

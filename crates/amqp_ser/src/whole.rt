@@ -1,16 +1,14 @@
 //! Values that are measured and encoded without a serializer.
 
-ghost use Rattle.std.specs.Prelude.{◌≡◌, ◌+◌, ◌++◌, ◌≤◌, true, length, IfSome};
+ghost use Rattle.std.specs.Prelude.{◌≡◌, ◌++◌, ◌≤◌, true, length, IfSome};
 ghost use Rattle.std.specs.Vec.{vec_capacity};
 ghost use Rattle.amqp_ser.specs.Tree.{Tree};
 ghost use Rattle.amqp_ser.specs.Encoding.{encoding};
 ghost use Rattle.amqp_ser.specs.Writable.{within_limits, uniform_arrays, inside, writable};
 ghost use Rattle.amqp_ser.specs.Extends.{Extends};
-ghost use Rattle.amqp_ser.specs.Headers.{headers_of};
 ghost use Rattle.amqp_ser.specs.Ranged.{IsRanged};
-ghost use Rattle.amqp_ser.specs.Untyped.{IsUntyped};
 
-use crate::header::Header;
+use crate::hint::Hint;
 use std::alloc::Global;
 
 /// A value that can measure and encode its data tree without a serializer.
@@ -47,34 +45,30 @@ pub trait Whole {
         ensures { IfSome result (λ bytes. (writable (whole_tree self.now) ≡ true)
             × (bytes.items ≡ encoding (whole_tree self.now))) };
 
-    /// Like `whole_len`, and appends the headers of the compounds, in the order in which they are
-    /// opened.
+    /// Like `whole_len`, and appends a hint for each compound, in the order in which they are opened.
+    /// No clause says that the hints are right.
     ///
     /// # Example
-    /// The list of the strings `a` and `bc` has the length 10, and one header, of a body of 7 bytes
-    /// and 2 parts.
-    fn whole_headers(&self, headers: &mut Vec<Header>) -> Option<usize>
-        ensures extends { Extends headers.old.items headers.new.items }
-        ensures listed { IfSome result (λ n. (within_limits (whole_tree self.now) ≡ true)
+    /// The list of the strings `a` and `bc` has the length 10, and one hint, of a body of 7 bytes and
+    /// 2 parts.
+    fn whole_hints(&self, hints: &mut Vec<Hint>) -> Option<usize>
+        ensures measured { IfSome result (λ n. (within_limits (whole_tree self.now) ≡ true)
             × ((uniform_arrays (whole_tree self.now) ≡ true)
             × ((inside (whole_tree self.now) ≡ true)
-            × ((n ≡ length (encoding (whole_tree self.now)))
-            × ((headers.new.items ≡ headers.old.items ++ headers_of (whole_tree self.now))
-            × IsUntyped (whole_tree self.now)))))) }
+            × (n ≡ length (encoding (whole_tree self.now)))))) }
         ensures ranged { IfSome result (λ _. IsRanged (whole_tree self.now)) };
 
-    /// Appends the encoding with these headers, from index `taken` on, which is then the index
-    /// after them. Returns `false` if that fails, as with other headers than those of the value.
+    /// Appends the encoding with these hints, from index `taken` on, which is then the index after
+    /// them. Returns `false` if that fails, as with other hints than those of the value.
     ///
     /// # Example
-    /// With the headers that `whole_headers` appends, the list of the strings `a` and `bc` is
+    /// With the hints that `whole_hints` appends, the list of the strings `a` and `bc` is
     /// `c00802a10161a1026263`.
-    fn whole_write(&self, headers: &[Header], taken: &mut usize, out: &mut Vec<u8>) -> bool
+    fn whole_write(&self, hints: &[Hint], taken: &mut usize, out: &mut Vec<u8>) -> bool
         ensures capacity { vec_capacity out.old ≤ vec_capacity out.new }
         ensures extends { Extends out.old.items out.new.items }
         ensures written { result ≡ true → (within_limits (whole_tree self.now) ≡ true)
             × ((uniform_arrays (whole_tree self.now) ≡ true)
             × ((inside (whole_tree self.now) ≡ true)
-            × ((out.new.items ≡ out.old.items ++ encoding (whole_tree self.now))
-            × (taken.new ≡ taken.old + length (headers_of (whole_tree self.now)))))) };
+            × (out.new.items ≡ out.old.items ++ encoding (whole_tree self.now)))) };
 }

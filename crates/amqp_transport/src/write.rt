@@ -18,7 +18,7 @@ use std::alloc::Global;
 /// it is written, and the errors of `to_vec`.
 ///
 /// # Memory
-/// Allocates the frame from `alloc`, once its size is known, and a table of 12 bytes for each
+/// Allocates the frame from `alloc`, once its size is known, and a table of 8 bytes for each
 /// compound of the performative.
 ///
 /// # Example

@@ -8,7 +8,6 @@ use Rattle.amqp_ser.specs.Scalars.{scalar_form, scalar_payload}
 use Rattle.amqp_ser.specs.Encoding.{encoding, encoding_each, encoding_pairs, payload, payload_each, array_constructor, constructor, code_list, counted, wide, list_form, array_form, descriptor_form}
 use Rattle.amqp_ser.specs.Writable.{scalar_fits, same_constructor, each_constructor, descriptor_fits}
 use Rattle.amqp_ser.proofs.Bools.{both, le_true, nat_eq-refl}
-use Rattle.amqp_ser.specs.Headers.{headers_of, headers_of_each, headers_of_pairs}
 use Rattle.amqp_value.specs.TreeOf.{tree_of, all_of, pairs_trees}
 use Rattle.amqp_value.specs.declared.value.Value.{Value}
 use Rattle.amqp_value.specs.Wrote.{Grows, Wrote, WrotePayload, WroteEach, WrotePairs, WrotePayloads, WroteContent, wide_header, counted_header, list_header, array_header}
@@ -249,30 +248,6 @@ pub room_next : (n i w len after cap : ℕ) → i < n → len + (n - i) * w ≤ 
 room_next n i w len after cap lt room e =
     let r = subst (λ k. len + k ≤ cap) (rest_times n i w lt) room in
     moved len w ((n - (i + 1)) * w) after cap r e
-
--- The headers of the parts are taken one after another.
-pub each_taken : (xs : List Value) (i : ℕ) (v : Value) (start now after : ℕ) → i < length xs → v ≡ get_or xs i v
-    → now + length (headers_of_each (all_of (drop i xs))) ≡ start + length (headers_of_each (all_of xs)) → after ≡ now + length (headers_of (tree_of v))
-    → after + length (headers_of_each (all_of (drop (i + 1) xs))) ≡ start + length (headers_of_each (all_of xs))
-each_taken xs i v start now after lt is inv one =
-    let r : now + length (headers_of (tree_of (get_or xs i v)) ++ headers_of_each (all_of (drop (suc i) xs))) ≡ start + length (headers_of_each (all_of xs)) = rw (drop-cons xs i v lt) at inv in
-    let o = subst (λ w. after ≡ now + length (headers_of (tree_of w))) is one in
-    let l = length-append (headers_of (tree_of (get_or xs i v))) (headers_of_each (all_of (drop (suc i) xs))) in
-    rw add-one (omega arith)
-
-pub pair_taken : (es : List (Value × Value)) (i : ℕ) (e : Value × Value) (start now after : ℕ) → i < length es → e ≡ get_or es i e
-    → now + length (headers_of_pairs (pairs_trees (drop i es))) ≡ start + length (headers_of_pairs (pairs_trees es)) → after ≡ now + length (headers_of (tree_of e.0)) + length (headers_of (tree_of e.1))
-    → after + length (headers_of_pairs (pairs_trees (drop (i + 1) es))) ≡ start + length (headers_of_pairs (pairs_trees es))
-pair_taken es i e start now after lt is inv one =
-    let d = get_or es i e in
-    let hk = headers_of (tree_of d.0) in
-    let hv = headers_of (tree_of d.1) in
-    let hs = headers_of_pairs (pairs_trees (drop (suc i) es)) in
-    let r : now + length (hk ++ (hv ++ hs)) ≡ start + length (headers_of_pairs (pairs_trees es)) = rw (drop-cons es i e lt) at inv in
-    let o = subst (λ w. after ≡ now + length (headers_of (tree_of w.0)) + length (headers_of (tree_of w.1))) is one in
-    let l = length-append hk (hv ++ hs) in
-    let m = length-append hv hs in
-    rw add-one (omega arith)
 
 -- The item at an index, whatever stands for no item.
 pub same_item : (es : List (Value × Value)) (i : ℕ) (d e : Value × Value) → i < length es → d ≡ get_or es i d → e ≡ get_or es i e → d ≡ e

@@ -22,5 +22,4 @@ pub mod Builds
 pub mod FaultError
 pub mod EscapedBytes
 pub mod Measured
-pub mod Noted
 pub mod Wrote

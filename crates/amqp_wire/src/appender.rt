@@ -140,7 +140,7 @@ impl Sink for Appender {
 
     #[inline(always)]
     fn open(&mut self, element: bool, kind: HeaderKind) -> Opened {
-        let Some(header) = self.hints.next() else {
+        let Some(hint) = self.hints.next() else {
             self.spoiled = true;
             return Opened {
                 start: self.out.len(),
@@ -148,11 +148,11 @@ impl Sink for Appender {
                 count: 0,
             };
         };
-        self.header(element, kind, header.len, header.count);
+        self.header(element, kind, hint.len, hint.count);
         Opened {
             start: self.out.len(),
-            at: header.len as usize,
-            count: header.count as usize,
+            at: hint.len as usize,
+            count: hint.count as usize,
         }
     }
 

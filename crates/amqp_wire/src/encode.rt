@@ -22,7 +22,7 @@ use std::alloc::Global;
 /// value has no tree.
 ///
 /// # Memory
-/// Allocates from `alloc` once for the bytes, and for a table of 12 bytes for each compound. A
+/// Allocates from `alloc` once for the bytes, and for a table of 8 bytes for each compound. A
 /// scalar needs no table.
 ///
 /// # Example

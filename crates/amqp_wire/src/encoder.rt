@@ -5,7 +5,7 @@ ghost use Rattle.amqp_ser.specs.SizeAndBytes.{AreBytesOf};
 
 use crate::appending::append;
 use amqp_data::Error;
-use amqp_ser::{Header, Serialize};
+use amqp_ser::{Hint, Serialize};
 use std::alloc::Global;
 
 /// Encodes one value after another into a buffer that it keeps.
@@ -21,7 +21,7 @@ use std::alloc::Global;
 pub struct Encoder {
     alloc: Global,
     /// The table of the last value, of which only the capacity is used.
-    headers: Vec<Header>,
+    table: Vec<Hint>,
     /// The bytes of the last value.
     bytes: Vec<u8>,
 }
@@ -34,7 +34,7 @@ impl Encoder {
     pub fn new(alloc: Global) -> Encoder {
         Encoder {
             alloc,
-            headers: Vec::new(alloc),
+            table: Vec::new(alloc),
             bytes: Vec::new(alloc),
         }
     }
@@ -60,7 +60,7 @@ impl Encoder {
             (λ e. AreBytesOf (T.tree value.now) (Err e)) }
     {
         self.bytes.clear();
-        append(self.alloc, &mut self.headers, &mut self.bytes, value)?;
+        append(self.alloc, &mut self.table, &mut self.bytes, value)?;
         Ok(self.bytes.as_slice())
     }
 }

@@ -6,16 +6,16 @@ ghost use Rattle.amqp_ser.specs.Extends.{Extends};
 ghost use Rattle.amqp_ser.specs.Ranged.{IsRanged};
 ghost use Rattle.amqp_ser.specs.Writable.{within_limits, uniform_arrays, inside};
 
-use amqp_ser::{Header, Whole};
+use amqp_ser::{Hint, Whole};
 
 /// The lengths and counts of compounds, in the order in which they are opened. No clause says that
 /// they are those of a value: whoever takes one compares it with what was written.
 ///
 /// # Memory
-/// 12 bytes for each compound.
+/// 8 bytes for each compound.
 #[derive(Drop)]
 pub struct Hints {
-    hints: Vec<Header>,
+    hints: Vec<Hint>,
     taken: usize,
     /// Whether an allocation has ever failed.
     refused: bool,
@@ -24,7 +24,7 @@ pub struct Hints {
 impl Hints {
     /// Creates an empty list of hints. Of `hints` only the capacity is used.
     #[inline(always)]
-    pub fn with_memory(hints: Vec<Header>) -> Hints {
+    pub fn with_memory(hints: Vec<Hint>) -> Hints {
         let mut hints = hints;
         hints.clear();
         Hints {
@@ -36,7 +36,7 @@ impl Hints {
 
     /// Returns the memory.
     #[inline(always)]
-    pub fn into_memory(self) -> Vec<Header> {
+    pub fn into_memory(self) -> Vec<Hint> {
         let Hints {
             hints,
             taken: _,
@@ -55,12 +55,8 @@ impl Hints {
     #[inline(always)]
     pub(crate) fn open(&mut self) -> usize {
         let at = self.hints.len();
-        let header = Header {
-            len: 0,
-            count: 0,
-            constructor: None,
-        };
-        if self.hints.push(header).is_err() {
+        let hint = Hint { len: 0, count: 0 };
+        if self.hints.push(hint).is_err() {
             self.refused = true;
         }
         at
@@ -70,11 +66,7 @@ impl Hints {
     #[inline(always)]
     pub(crate) fn close(&mut self, at: usize, len: u32, count: u32) {
         if at < self.hints.len() {
-            self.hints[at] = Header {
-                len,
-                count,
-                constructor: None,
-            };
+            self.hints[at] = Hint { len, count };
         }
     }
 
@@ -92,13 +84,13 @@ impl Hints {
 
     /// Takes the next hint.
     #[inline(always)]
-    pub(crate) fn next(&mut self) -> Option<Header> {
+    pub(crate) fn next(&mut self) -> Option<Hint> {
         if self.taken >= self.hints.len() {
             return None;
         }
-        let header = self.hints[self.taken];
+        let hint = self.hints[self.taken];
         self.taken += 1;
-        Some(header)
+        Some(hint)
     }
 
     /// Measures a whole value, and notes its hints.
@@ -110,7 +102,7 @@ impl Hints {
             × (n ≡ length (encoding (W.whole_tree whole.now)))))) }
         ensures ranged { IfSome result (λ _. IsRanged (W.whole_tree whole.now)) }
     {
-        whole.whole_headers(&mut self.hints)
+        whole.whole_hints(&mut self.hints)
     }
 
     /// Appends a whole value, and takes its hints.

@@ -32,7 +32,7 @@ pub fn error_of<T: Serialize>(value: &T) -> Error
 /// values of several types.
 ///
 /// # Memory
-/// 12 bytes for each compound, in `hints`.
+/// 8 bytes for each compound, in `hints`.
 #[tactic(auto, using(crate::proofs::Rooted::root_ranged))]
 #[inline]
 pub fn measure<T: Serialize>(hints: Hints, value: &T) -> (Option<usize>, Hints)

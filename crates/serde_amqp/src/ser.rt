@@ -3,7 +3,7 @@
 pub use crate::fields;
 pub use amqp_data::markers;
 pub use amqp_ser::{
-    Compound, CompoundKind, Field, Fields, Fixed, Header, Keys, ListOf, MapOf, Marker, Name,
+    Compound, CompoundKind, Field, Fields, Fixed, Hint, Keys, ListOf, MapOf, Marker, Name,
     OptionalField, Serialize, SerializeCompounds, SerializeMap, SerializeScalars, SerializeSeq,
     SerializeStruct, SerializeStructVariant, SerializeTuple, SerializeTupleStruct,
     SerializeTupleVariant, Serializer, StructEncoding, SymbolMapOf, VariantOf, Whole, marker_named,

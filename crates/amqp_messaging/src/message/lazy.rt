@@ -1,6 +1,6 @@
 //! Messages whose body is not decoded.
 
-ghost use Rattle.std.specs.Prelude.{◌≡◌, ◌⊎◌, ◌++◌, [], List, ℕ, None, IfOk, IfErr};
+ghost use Rattle.std.specs.Prelude.{◌≡◌, ◌⊎◌, ◌++◌, [], List, ℕ, None, IfOk, IfErr, IfSome};
 ghost use Rattle.amqp_data.specs.declared.error.Error.{Error};
 ghost use Rattle.amqp_data.specs.declared.error.Error.TheVariants.{OutOfMemory};
 ghost use Rattle.amqp_messaging.specs.Messages.{PutsFront, ReadsPart, RefusesFront, RefusesMessage};
@@ -13,10 +13,10 @@ use crate::header::Header;
 use crate::message::error::MessageError;
 use crate::message::parts::{cut, reason};
 use crate::message::read::read_part;
-use crate::message::write::{Measured, Written, measure_front, put_bytes, put_front, room};
+use crate::message::write::{Measured, Written, front_error, measure_front, put_bytes, put_front};
 use crate::properties::Properties;
-use serde_amqp::Limits;
 use serde_amqp::derive::{Deserialize, Serialize};
+use serde_amqp::{Error, Limits};
 use std::alloc::Global;
 
 /// A message as a node between sender and receiver needs it: it reads the properties, changes the
@@ -127,8 +127,8 @@ impl<'a> LazyMessage<'a> {
     /// Returns the error of `to_vec` for the header or the annotations as `Value`.
     ///
     /// # Memory
-    /// Allocates from `alloc` at most twice for the bytes, and for a table of 12 bytes for each
-    /// compound of the header and the annotations.
+    /// Allocates from `alloc` once for the bytes, and for a table of 8 bytes for each compound of
+    /// the header and the annotations.
     pub fn to_vec(&self, alloc: Global) -> Result<Vec<u8>, MessageError>
         ensures written { IfOk result (λ v. (front : List ℕ)
             × PutsFront ⟦<Header as Serialize>⟧.tree ⟦<DeliveryAnnotations as Serialize>⟧.tree
@@ -140,20 +140,49 @@ impl<'a> LazyMessage<'a> {
             ⟦<DeliveryAnnotations as Serialize>⟧.tree ⟦<MessageAnnotations as Serialize>⟧.tree
             self.now.header self.now.delivery_annotations self.now.message_annotations f)) }
     {
-        let Measured { hints, len } = measure_front(
+        let Some(buffer) = self.buffer(alloc) else {
+            return Err(self.error());
+        };
+        let Some(front) = put_front(
+            buffer,
+            &self.header,
+            &self.delivery_annotations,
+            &self.message_annotations,
+        ) else {
+            return Err(self.error());
+        };
+        let out = put_bytes(front.out, self.bare)?;
+        Ok(put_bytes(out, self.footer)?)
+    }
+
+    // Measures the sections, and creates a buffer for them.
+    fn buffer(&self, alloc: Global) -> Option<Written>
+        ensures { IfSome result (λ r. r.out.items ≡ []) }
+    {
+        let front = measure_front(
             Measured::new(alloc),
             &self.header,
             &self.delivery_annotations,
             &self.message_annotations,
         )?;
-        let out = room(alloc, len)?;
-        let Written { hints: _, out } = put_front(
-            Written { hints, out },
+        front.buffer(alloc, self.bare.len().checked_add(self.footer.len())?)
+    }
+
+    // Returns why the message is not written: the first error of a section, or `OutOfMemory`.
+    fn error(&self) -> MessageError
+        ensures { (f : Error) × (result ≡ Value f)
+            × ((f ≡ OutOfMemory) ⊎ RefusesFront ⟦<Header as Serialize>⟧.tree
+            ⟦<DeliveryAnnotations as Serialize>⟧.tree ⟦<MessageAnnotations as Serialize>⟧.tree
+            self.now.header self.now.delivery_annotations self.now.message_annotations f) }
+    {
+        let error = front_error(
             &self.header,
             &self.delivery_annotations,
             &self.message_annotations,
-        )?;
-        let all = put_bytes(out, self.bare)?;
-        Ok(put_bytes(all, self.footer)?)
+        );
+        match error {
+            Some(error) => MessageError::Value(error),
+            None => MessageError::Value(Error::OutOfMemory),
+        }
     }
 }

@@ -1,6 +1,6 @@
 //! Messages whose sections are all read.
 
-ghost use Rattle.std.specs.Prelude.{◌≡◌, ◌⊎◌, ◌++◌, [], List, ℕ, None, IfOk, IfErr};
+ghost use Rattle.std.specs.Prelude.{◌≡◌, ◌⊎◌, ◌++◌, [], List, ℕ, None, IfOk, IfErr, IfSome};
 ghost use Rattle.amqp_data.specs.declared.error.Error.{Error};
 ghost use Rattle.amqp_messaging.specs.Messages.{PutsBare, PutsFront, PutsSection, ReadsBody, ReadsPart};
 ghost use Rattle.amqp_messaging.specs.Messages.{RefusesBare, RefusesFront, RefusesMessage, RefusesSection};
@@ -16,10 +16,11 @@ use crate::message::error::MessageError;
 use crate::message::parts::{cut, reason};
 use crate::message::read::{read_body, read_part};
 use crate::message::write::{
-    Measured, Written, measure_bare, measure_front, measure_section, put_bare, put_front,
-    put_section, room,
+    Measured, Written, bare_error, front_error, measure_bare, measure_front, measure_section,
+    put_bare, put_front, put_section, section_error,
 };
 use crate::properties::Properties;
+use amqp_wire::error_of;
 use serde_amqp::Limits;
 use serde_amqp::derive::{Deserialize, Serialize};
 use std::alloc::Global;
@@ -141,7 +142,7 @@ impl Message {
     /// Returns the error of `to_vec` for a section as `Value`.
     ///
     /// # Memory
-    /// Allocates from `alloc` once for the bytes, and for a table of 12 bytes for each compound.
+    /// Allocates from `alloc` once for the bytes, and for a table of 8 bytes for each compound.
     pub fn to_vec(&self, alloc: Global) -> Result<Vec<u8>, MessageError>
         ensures written { IfOk result (λ all. (front bare : List ℕ)
             × PutsFront ⟦<Header as Serialize>⟧.tree ⟦<DeliveryAnnotations as Serialize>⟧.tree
@@ -158,33 +159,75 @@ impl Message {
             ⟦<Body as Serialize>⟧.tree self.now.properties self.now.application_properties self.now.body f
             ⊎ RefusesSection ⟦<Footer as Serialize>⟧.tree self.now.footer f)) }
     {
-        let measured = measure_front(
+        let Some(buffer) = self.buffer(alloc) else {
+            return Err(self.error());
+        };
+        let Some(front) = put_front(
+            buffer,
+            &self.header,
+            &self.delivery_annotations,
+            &self.message_annotations,
+        ) else {
+            return Err(self.error());
+        };
+        let Some(bare) = put_bare(
+            front,
+            &self.properties,
+            &self.application_properties,
+            &self.body,
+        ) else {
+            return Err(self.error());
+        };
+        let Some(all) = put_section(bare, &self.footer) else {
+            return Err(self.error());
+        };
+        Ok(all.out)
+    }
+
+    // Measures the sections, and creates a buffer for them.
+    fn buffer(&self, alloc: Global) -> Option<Written>
+        ensures { IfSome result (λ r. r.out.items ≡ []) }
+    {
+        let front = measure_front(
             Measured::new(alloc),
             &self.header,
             &self.delivery_annotations,
             &self.message_annotations,
         )?;
-        let measured = measure_bare(
-            measured,
-            &self.properties,
-            &self.application_properties,
-            &self.body,
-        )?;
-        let Measured { hints, len } = measure_section(measured, &self.footer)?;
-        let out = room(alloc, len)?;
-        let front = put_front(
-            Written { hints, out },
-            &self.header,
-            &self.delivery_annotations,
-            &self.message_annotations,
-        )?;
-        let bare = put_bare(
+        let bare = measure_bare(
             front,
             &self.properties,
             &self.application_properties,
             &self.body,
         )?;
-        let Written { hints: _, out } = put_section(bare, &self.footer)?;
-        Ok(out)
+        measure_section(bare, &self.footer)?.buffer(alloc, 0)
+    }
+
+    // Returns why the message is not written: the first error of a section, or `OutOfMemory`.
+    fn error(&self) -> MessageError
+        ensures { (f : Error) × (result ≡ Value f)
+            × (RefusesFront ⟦<Header as Serialize>⟧.tree ⟦<DeliveryAnnotations as Serialize>⟧.tree
+            ⟦<MessageAnnotations as Serialize>⟧.tree self.now.header self.now.delivery_annotations
+            self.now.message_annotations f
+            ⊎ RefusesBare ⟦<Properties as Serialize>⟧.tree ⟦<ApplicationProperties as Serialize>⟧.tree
+            ⟦<Body as Serialize>⟧.tree self.now.properties self.now.application_properties self.now.body f
+            ⊎ RefusesSection ⟦<Footer as Serialize>⟧.tree self.now.footer f) }
+    {
+        let front = front_error(
+            &self.header,
+            &self.delivery_annotations,
+            &self.message_annotations,
+        );
+        if let Some(error) = front {
+            return MessageError::Value(error);
+        }
+        let bare = bare_error(&self.properties, &self.application_properties, &self.body);
+        if let Some(error) = bare {
+            return MessageError::Value(error);
+        }
+        match section_error(&self.footer) {
+            Some(error) => MessageError::Value(error),
+            None => MessageError::Value(error_of(&self.body)),
+        }
     }
 }

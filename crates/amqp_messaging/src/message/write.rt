@@ -1,6 +1,7 @@
-//! Writes sections: all are measured, and then written into one buffer.
+//! Writes sections: all are measured, and then written into one buffer. What is not written has no
+//! error until one is looked for.
 
-ghost use Rattle.std.specs.Prelude.{◌≡◌, ◌++◌, [], Err, IfErr, IfOk};
+ghost use Rattle.std.specs.Prelude.{◌≡◌, ◌++◌, [], Err, IfErr, IfOk, IfSome};
 ghost use Rattle.amqp_data.specs.declared.error.Error.TheVariants.{OutOfMemory};
 ghost use Rattle.amqp_messaging.specs.Messages.{PutsBare, PutsFront, PutsSection, PutsTree};
 ghost use Rattle.amqp_messaging.specs.Messages.{RefusesBare, RefusesFront, RefusesSection};
@@ -10,16 +11,16 @@ use crate::annotations::{ApplicationProperties, DeliveryAnnotations, MessageAnno
 use crate::header::Header;
 use crate::message::content::Body;
 use crate::properties::Properties;
-use amqp_wire::{Hints, append_value, error_of, measure};
-use serde_amqp::Error;
+use amqp_wire::{Hints, append_value, measure};
 use serde_amqp::derive::Serialize;
+use serde_amqp::{Error, serialized_size};
 use std::alloc::Global;
 
 /// Sections that are measured. No clause says that the length is theirs.
 #[derive(Drop)]
 pub(crate) struct Measured {
-    pub hints: Hints,
-    pub len: usize,
+    hints: Hints,
+    len: usize,
 }
 
 impl Measured {
@@ -30,33 +31,33 @@ impl Measured {
             len: 0,
         }
     }
+
+    /// Returns the hints and a buffer of the length of the sections and this many more bytes.
+    pub(crate) fn buffer(self, alloc: Global, more: usize) -> Option<Written>
+        ensures { IfSome result (λ r. r.out.items ≡ []) }
+    {
+        let Measured { hints, len } = self;
+        let out = Vec::with_capacity(alloc, len.checked_add(more)?).ok()?;
+        Some(Written { hints, out })
+    }
 }
 
 /// Measures one more value.
-fn measure_tree<T: Serialize>(before: Measured, section: &T) -> Result<Measured, Error>
-    ensures { IfErr result (λ e. AreBytesOf (T.tree section.now) (Err e)) }
-{
+fn measure_tree<T: Serialize>(before: Measured, section: &T) -> Option<Measured> {
     let Measured { hints, len } = before;
     let (more, hints) = measure(hints, section);
-    let Some(more) = more else {
-        return Err(error_of(section));
-    };
-    match len.checked_add(more) {
-        Some(len) => Ok(Measured { hints, len }),
-        None => Err(Error::OutOfMemory),
-    }
+    let len = len.checked_add(more?)?;
+    Some(Measured { hints, len })
 }
 
 /// Measures one more section, if there is one.
 pub(crate) fn measure_section<T: Serialize>(
     before: Measured,
     section: &Option<T>,
-) -> Result<Measured, Error>
-    ensures { IfErr result (RefusesSection T.tree section.now) }
-{
+) -> Option<Measured> {
     match section {
         Some(section) => measure_tree(before, section),
-        None => Ok(before),
+        None => Some(before),
     }
 }
 
@@ -66,14 +67,10 @@ pub(crate) fn measure_front(
     header: &Option<Header>,
     delivery: &Option<DeliveryAnnotations>,
     message: &Option<MessageAnnotations>,
-) -> Result<Measured, Error>
-    ensures { IfErr result (RefusesFront ⟦<Header as Serialize>⟧.tree
-        ⟦<DeliveryAnnotations as Serialize>⟧.tree ⟦<MessageAnnotations as Serialize>⟧.tree header.now
-        delivery.now message.now) }
-{
+) -> Option<Measured> {
     let one = measure_section(before, header)?;
     let two = measure_section(one, delivery)?;
-    Ok(measure_section(two, message)?)
+    measure_section(two, message)
 }
 
 /// Measures a bare message.
@@ -82,14 +79,10 @@ pub(crate) fn measure_bare(
     properties: &Option<Properties>,
     application: &Option<ApplicationProperties>,
     body: &Body,
-) -> Result<Measured, Error>
-    ensures { IfErr result (RefusesBare ⟦<Properties as Serialize>⟧.tree
-        ⟦<ApplicationProperties as Serialize>⟧.tree ⟦<Body as Serialize>⟧.tree properties.now application.now
-        body.now) }
-{
+) -> Option<Measured> {
     let one = measure_section(before, properties)?;
     let two = measure_section(one, application)?;
-    Ok(measure_tree(two, body)?)
+    measure_tree(two, body)
 }
 
 /// Sections that are written.
@@ -101,30 +94,25 @@ pub(crate) struct Written {
 
 /// Appends one more value.
 #[tactic(auto, using(crate::proofs::MessageLemmas::put_tree))]
-fn put_tree<T: Serialize>(before: Written, section: &T) -> Result<Written, Error>
-    ensures puts { IfOk result (λ r. PutsTree (T.tree section.now) before.out.items r.out.items) }
-    ensures refused { IfErr result (λ e. AreBytesOf (T.tree section.now) (Err e)) }
+fn put_tree<T: Serialize>(before: Written, section: &T) -> Option<Written>
+    ensures { IfSome result (λ r. PutsTree (T.tree section.now) before.out.items r.out.items) }
 {
     let Written { hints, out } = before;
     let (is_written, hints, out) = append_value(hints, out, section);
     if is_written {
-        Ok(Written { hints, out })
+        Some(Written { hints, out })
     } else {
-        Err(error_of(section))
+        None
     }
 }
 
 /// Appends one more section, if there is one.
-pub(crate) fn put_section<T: Serialize>(
-    before: Written,
-    section: &Option<T>,
-) -> Result<Written, Error>
-    ensures puts { IfOk result (λ r. PutsSection T.tree before.out.items r.out.items section.now) }
-    ensures refused { IfErr result (RefusesSection T.tree section.now) }
+pub(crate) fn put_section<T: Serialize>(before: Written, section: &Option<T>) -> Option<Written>
+    ensures { IfSome result (λ r. PutsSection T.tree before.out.items r.out.items section.now) }
 {
     match section {
         Some(section) => put_tree(before, section),
-        None => Ok(before),
+        None => Some(before),
     }
 }
 
@@ -134,17 +122,14 @@ pub(crate) fn put_front(
     header: &Option<Header>,
     delivery: &Option<DeliveryAnnotations>,
     message: &Option<MessageAnnotations>,
-) -> Result<Written, Error>
-    ensures puts { IfOk result (λ r. PutsFront ⟦<Header as Serialize>⟧.tree
+) -> Option<Written>
+    ensures { IfSome result (λ r. PutsFront ⟦<Header as Serialize>⟧.tree
         ⟦<DeliveryAnnotations as Serialize>⟧.tree ⟦<MessageAnnotations as Serialize>⟧.tree before.out.items
         r.out.items header.now delivery.now message.now) }
-    ensures refused { IfErr result (RefusesFront ⟦<Header as Serialize>⟧.tree
-        ⟦<DeliveryAnnotations as Serialize>⟧.tree ⟦<MessageAnnotations as Serialize>⟧.tree header.now
-        delivery.now message.now) }
 {
     let one = put_section(before, header)?;
     let two = put_section(one, delivery)?;
-    Ok(put_section(two, message)?)
+    put_section(two, message)
 }
 
 /// Appends a bare message.
@@ -153,25 +138,14 @@ pub(crate) fn put_bare(
     properties: &Option<Properties>,
     application: &Option<ApplicationProperties>,
     body: &Body,
-) -> Result<Written, Error>
-    ensures puts { IfOk result (λ r. PutsBare ⟦<Properties as Serialize>⟧.tree
+) -> Option<Written>
+    ensures { IfSome result (λ r. PutsBare ⟦<Properties as Serialize>⟧.tree
         ⟦<ApplicationProperties as Serialize>⟧.tree ⟦<Body as Serialize>⟧.tree before.out.items r.out.items
         properties.now application.now body.now) }
-    ensures refused { IfErr result (RefusesBare ⟦<Properties as Serialize>⟧.tree
-        ⟦<ApplicationProperties as Serialize>⟧.tree ⟦<Body as Serialize>⟧.tree properties.now application.now
-        body.now) }
 {
     let one = put_section(before, properties)?;
     let two = put_section(one, application)?;
-    Ok(put_tree(two, body)?)
-}
-
-/// Creates a buffer of this capacity.
-pub(crate) fn room(alloc: Global, len: usize) -> Result<Vec<u8>, Error>
-    ensures empty { IfOk result (λ v. v.items ≡ []) }
-    ensures refused { IfErr result (λ e. e ≡ OutOfMemory) }
-{
-    Ok(Vec::with_capacity(alloc, len)?)
+    put_tree(two, body)
 }
 
 /// Appends bytes.
@@ -182,4 +156,62 @@ pub(crate) fn put_bytes(out: Vec<u8>, bytes: &[u8]) -> Result<Vec<u8>, Error>
     let mut out = out;
     out.extend_from_slice(bytes)?;
     Ok(out)
+}
+
+/// Returns the error of `to_vec` for a value, but for a failed allocation.
+fn tree_error<T: Serialize>(section: &T) -> Option<Error>
+    ensures { IfSome result (λ e. AreBytesOf (T.tree section.now) (Err e)) }
+{
+    match serialized_size(section) {
+        Ok(_) => None,
+        Err(error) => Some(error),
+    }
+}
+
+/// Returns the error of a section, if there is one.
+pub(crate) fn section_error<T: Serialize>(section: &Option<T>) -> Option<Error>
+    ensures { IfSome result (RefusesSection T.tree section.now) }
+{
+    match section {
+        Some(section) => tree_error(section),
+        None => None,
+    }
+}
+
+/// Returns the first error of the sections before a bare message.
+pub(crate) fn front_error(
+    header: &Option<Header>,
+    delivery: &Option<DeliveryAnnotations>,
+    message: &Option<MessageAnnotations>,
+) -> Option<Error>
+    ensures { IfSome result (RefusesFront ⟦<Header as Serialize>⟧.tree
+        ⟦<DeliveryAnnotations as Serialize>⟧.tree ⟦<MessageAnnotations as Serialize>⟧.tree header.now
+        delivery.now message.now) }
+{
+    if let Some(error) = section_error(header) {
+        return Some(error);
+    }
+    if let Some(error) = section_error(delivery) {
+        return Some(error);
+    }
+    section_error(message)
+}
+
+/// Returns the first error of a bare message.
+pub(crate) fn bare_error(
+    properties: &Option<Properties>,
+    application: &Option<ApplicationProperties>,
+    body: &Body,
+) -> Option<Error>
+    ensures { IfSome result (RefusesBare ⟦<Properties as Serialize>⟧.tree
+        ⟦<ApplicationProperties as Serialize>⟧.tree ⟦<Body as Serialize>⟧.tree properties.now application.now
+        body.now) }
+{
+    if let Some(error) = section_error(properties) {
+        return Some(error);
+    }
+    if let Some(error) = section_error(application) {
+        return Some(error);
+    }
+    tree_error(body)
 }

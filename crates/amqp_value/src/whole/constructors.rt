@@ -2,8 +2,7 @@
 
 ghost use Rattle.std.specs.Prelude.{◌≡◌, ◌<◌, Some, None, true};
 ghost use Rattle.amqp_ser.specs.Encoding.{constructor};
-ghost use Rattle.amqp_ser.specs.Headers.{first_constructor};
-ghost use Rattle.amqp_ser.specs.Writable.{each_constructor, one_constructor};
+ghost use Rattle.amqp_ser.specs.Writable.{each_constructor};
 ghost use Rattle.amqp_value.specs.TreeOf.{tree_of, all_of};
 ghost use Rattle.amqp_value.specs.Measured.{HaveRanges, width_for};
 
@@ -19,20 +18,8 @@ pub(crate) fn constructor_of(value: &Value) -> u8
     value.format_code()
 }
 
-/// Returns the constructor of the elements of an array, or `None` if the array is empty.
-#[inline(always)]
-pub(crate) fn constructor_of_each(items: &[Value]) -> Option<u8>
-    ensures { one_constructor (all_of items.now) ≡ true →
-        result ≡ first_constructor (all_of items.now) }
-{
-    match items.first() {
-        None => None,
-        Some(first) => Some(constructor_of(first)),
-    }
-}
-
-/// Returns whether each element has this constructor, in which case its scalars are in range. The common numbers have loops of their own,
-/// in which one comparison of the variant is left.
+/// Returns whether each element has this constructor, in which case its scalars are in range. The
+/// common numbers have loops of their own, in which one comparison of the variant is left.
 #[inline(always)]
 pub(crate) fn all_have(items: &[Value], code: u8) -> bool
     ensures each { result ≡ true → 0 < code → each_constructor (Some code) (all_of items.now) ≡ true }

@@ -2,18 +2,14 @@
 //!
 //! The parts of a compound are measured from the last to the first, as `Bodies` describes.
 
-ghost use Rattle.std.specs.Prelude.{◌≡◌, ◌≤◌, true, length};
 ghost use Rattle.amqp_ser.specs.Tree as tree;
-ghost use Rattle.amqp_ser.specs.Tree.{list, array, map};
 ghost use Rattle.amqp_ser.specs.Carried.{descriptor_content};
-ghost use Rattle.amqp_ser.specs.Headers.{headers_of, headers_of_each, headers_of_pairs};
 ghost use Rattle.amqp_value.specs.TreeOf.{tree_of, all_of, pairs_trees};
 ghost use Rattle.amqp_value.specs.Measured.{Measured, MeasuredPayload, MeasuredEach, MeasuredPayloads, MeasuredContent, MeasuredPairs, IsLength};
-ghost use Rattle.amqp_value.specs.Noted.{NotesIf};
 
 use crate::Value;
 use crate::whole::bodies::Bodies;
-use crate::whole::constructors::{all_have, constructor_of, constructor_of_each, width_of};
+use crate::whole::constructors::{all_have, constructor_of, width_of};
 use crate::whole::ranges::read_scalar;
 use crate::whole::sizes::{
     NOT_MEASURED, array_size, compound_payload_size, descriptor_size, exact_size, int_size,
@@ -26,9 +22,7 @@ use amqp_size::width::MAX_COUNT;
 #[inline(always)]
 #[cycle(measure)]
 pub(crate) fn measure<B: Bodies>(value: &Value, bodies: &mut B) -> usize
-    ensures measured { IsLength result → Measured (tree_of value.now) result }
-    ensures noted { B.keeps ≡ true → NotesIf (IsLength result)
-        (headers_of (tree_of value.now)) (B.noted bodies.old) (B.noted bodies.new) }
+    ensures { IsLength result → Measured (tree_of value.now) result }
 {
     read_scalar(value);
     match value {
@@ -67,12 +61,10 @@ pub(crate) fn measure<B: Bodies>(value: &Value, bodies: &mut B) -> usize
 #[inline(never)]
 #[cycle(measure)]
 fn measure_list<B: Bodies>(items: &[Value], bodies: &mut B) -> usize
-    ensures measured { IsLength result → MeasuredEach (all_of items.now) result }
-    ensures noted { B.keeps ≡ true → NotesIf (result ≤ 4294967291)
-        (headers_of (list (all_of items.now))) (B.noted bodies.old) (B.noted bodies.new) }
+    ensures { IsLength result → MeasuredEach (all_of items.now) result }
 {
     let len = measure_items(items, bodies);
-    if !bodies.record(len, items.len(), None) {
+    if !bodies.record(len, items.len()) {
         return NOT_MEASURED;
     }
     len
@@ -82,9 +74,7 @@ fn measure_list<B: Bodies>(items: &[Value], bodies: &mut B) -> usize
 #[inline(always)]
 #[cycle(measure)]
 fn measure_items<B: Bodies>(items: &[Value], bodies: &mut B) -> usize
-    ensures measured { IsLength result → MeasuredEach (all_of items.now) result }
-    ensures noted { B.keeps ≡ true → NotesIf (IsLength result)
-        (headers_of_each (all_of items.now)) (B.noted bodies.old) (B.noted bodies.new) }
+    ensures { IsLength result → MeasuredEach (all_of items.now) result }
 {
     let mut len: usize = 0;
     let mut at = items.len();
@@ -102,12 +92,10 @@ fn measure_items<B: Bodies>(items: &[Value], bodies: &mut B) -> usize
 #[inline(never)]
 #[cycle(measure)]
 fn measure_map<B: Bodies>(pairs: &[(Value, Value)], bodies: &mut B) -> usize
-    ensures measured { IsLength result → MeasuredPairs (pairs_trees pairs.now) result }
-    ensures noted { B.keeps ≡ true → NotesIf (result ≤ 4294967291)
-        (headers_of (map (pairs_trees pairs.now))) (B.noted bodies.old) (B.noted bodies.new) }
+    ensures { IsLength result → MeasuredPairs (pairs_trees pairs.now) result }
 {
     let len = measure_pairs(pairs, bodies);
-    if !bodies.record(len, pairs.len().saturating_mul(2), None) {
+    if !bodies.record(len, pairs.len().saturating_mul(2)) {
         return NOT_MEASURED;
     }
     len
@@ -117,9 +105,7 @@ fn measure_map<B: Bodies>(pairs: &[(Value, Value)], bodies: &mut B) -> usize
 #[inline(always)]
 #[cycle(measure)]
 fn measure_pairs<B: Bodies>(pairs: &[(Value, Value)], bodies: &mut B) -> usize
-    ensures measured { IsLength result → MeasuredPairs (pairs_trees pairs.now) result }
-    ensures noted { B.keeps ≡ true → NotesIf (IsLength result)
-        (headers_of_pairs (pairs_trees pairs.now)) (B.noted bodies.old) (B.noted bodies.new) }
+    ensures { IsLength result → MeasuredPairs (pairs_trees pairs.now) result }
 {
     let mut len: usize = 0;
     let mut at = pairs.len();
@@ -144,11 +130,9 @@ fn measure_pairs<B: Bodies>(pairs: &[(Value, Value)], bodies: &mut B) -> usize
 #[inline(never)]
 #[cycle(measure)]
 fn measure_described<B: Bodies>(described: &Described<Value>, bodies: &mut B) -> usize
-    ensures measured { IsLength result →
+    ensures { IsLength result →
         Measured (tree.described (descriptor_content described.now.descriptor)
         (tree_of described.now.value)) result }
-    ensures noted { B.keeps ≡ true → NotesIf (IsLength result)
-        (headers_of (tree_of described.now.value)) (B.noted bodies.old) (B.noted bodies.new) }
 {
     let descriptor = descriptor_size(&described.descriptor);
     descriptor
@@ -160,12 +144,10 @@ fn measure_described<B: Bodies>(described: &Described<Value>, bodies: &mut B) ->
 #[inline(never)]
 #[cycle(measure)]
 fn measure_array<B: Bodies>(items: &[Value], bodies: &mut B) -> usize
-    ensures measured { IsLength result → MeasuredContent (all_of items.now) result }
-    ensures noted { B.keeps ≡ true → NotesIf ((result ≤ 4294967291) × (length items.now ≤ 4294967295))
-        (headers_of (array (all_of items.now))) (B.noted bodies.old) (B.noted bodies.new) }
+    ensures { IsLength result → MeasuredContent (all_of items.now) result }
 {
     let len = measure_content(items, bodies);
-    if !bodies.record(len, items.len(), constructor_of_each(items)) {
+    if !bodies.record(len, items.len()) {
         return NOT_MEASURED;
     }
     len
@@ -175,9 +157,7 @@ fn measure_array<B: Bodies>(items: &[Value], bodies: &mut B) -> usize
 #[inline(always)]
 #[cycle(measure)]
 fn measure_content<B: Bodies>(items: &[Value], bodies: &mut B) -> usize
-    ensures measured { IsLength result → MeasuredContent (all_of items.now) result }
-    ensures noted { B.keeps ≡ true → NotesIf (IsLength result)
-        (headers_of_each (all_of items.now)) (B.noted bodies.old) (B.noted bodies.new) }
+    ensures { IsLength result → MeasuredContent (all_of items.now) result }
 {
     match items.first() {
         None => 0,
@@ -199,9 +179,7 @@ fn measure_content<B: Bodies>(items: &[Value], bodies: &mut B) -> usize
 #[inline(never)]
 #[cycle(measure)]
 fn measure_payloads<B: Bodies>(items: &[Value], bodies: &mut B) -> usize
-    ensures measured { IsLength result → MeasuredPayloads (all_of items.now) result }
-    ensures noted { B.keeps ≡ true → NotesIf (IsLength result)
-        (headers_of_each (all_of items.now)) (B.noted bodies.old) (B.noted bodies.new) }
+    ensures { IsLength result → MeasuredPayloads (all_of items.now) result }
 {
     let mut len: usize = 0;
     let mut at = items.len();
@@ -219,9 +197,7 @@ fn measure_payloads<B: Bodies>(items: &[Value], bodies: &mut B) -> usize
 #[inline(always)]
 #[cycle(measure)]
 fn measure_payload<B: Bodies>(value: &Value, bodies: &mut B) -> usize
-    ensures measured { IsLength result → MeasuredPayload (tree_of value.now) result }
-    ensures noted { B.keeps ≡ true → NotesIf (IsLength result)
-        (headers_of (tree_of value.now)) (B.noted bodies.old) (B.noted bodies.new) }
+    ensures { IsLength result → MeasuredPayload (tree_of value.now) result }
 {
     read_scalar(value);
     match value {

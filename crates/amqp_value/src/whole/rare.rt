@@ -1,8 +1,7 @@
 //! Appends the scalars that are rarely in a value: kept apart so that the functions for the common
 //! kinds stay small enough to be inlined.
 
-ghost use Rattle.std.specs.Prelude.{◌≡◌, [], true};
-ghost use Rattle.amqp_ser.specs.Headers.{headers_of};
+ghost use Rattle.std.specs.Prelude.{◌≡◌, true};
 ghost use Rattle.amqp_value.specs.TreeOf.{tree_of};
 ghost use Rattle.amqp_value.specs.Wrote.{Grows, Wrote, WrotePayload};
 
@@ -15,7 +14,6 @@ use amqp_data::EncodingCodes;
 pub(crate) fn write_rare(value: &Value, out: &mut Vec<u8>) -> bool
     ensures wrote { result ≡ true → Wrote (tree_of value.now) out.old.items out.new.items }
     ensures kept { Grows out.old out.new }
-    ensures headers { result ≡ true → headers_of (tree_of value.now) ≡ [] }
 {
     match value {
         Value::Ubyte(v) => put_few(&[EncodingCodes::Ubyte as u8, *v], out),
@@ -39,7 +37,6 @@ pub(crate) fn write_rare(value: &Value, out: &mut Vec<u8>) -> bool
 pub(crate) fn write_rare_payload(value: &Value, out: &mut Vec<u8>) -> bool
     ensures wrote { result ≡ true → WrotePayload (tree_of value.now) out.old.items out.new.items }
     ensures kept { Grows out.old out.new }
-    ensures headers { result ≡ true → headers_of (tree_of value.now) ≡ [] }
 {
     match value {
         Value::Null => true,

@@ -1,14 +1,13 @@
-//! The bytes of a value, by recursion, with the headers that `measure` recorded.
+//! The bytes of a value, by recursion, with the hints that `measure` recorded.
 //!
 //! No function assumes that a length is right: each is compared with the body that is written. If
 //! one differs, an array has elements of two types or the capacity is too small, the result is
 //! `false`, and the bytes that were appended are not used.
 
-ghost use Rattle.std.specs.Prelude.{◌≡◌, ◌+◌, ◌<◌, true, length, get_or};
+ghost use Rattle.std.specs.Prelude.{◌≡◌, ◌<◌, true, length, get_or};
 ghost use Rattle.amqp_ser.specs.Tree.{list, array, map};
 ghost use Rattle.amqp_ser.specs.Tree as tree;
 ghost use Rattle.amqp_ser.specs.Carried.{descriptor_content};
-ghost use Rattle.amqp_ser.specs.Headers.{headers_of, headers_of_each, headers_of_pairs};
 ghost use Rattle.amqp_value.specs.declared.value.Value.{Value};
 ghost use Rattle.amqp_value.specs.TreeOf.{tree_of, all_of, pairs_trees};
 ghost use Rattle.amqp_value.specs.Wrote.{Grows, Wrote, WrotePayload, WroteEach, WrotePairs, WroteContent, WrotePayloads};
@@ -24,15 +23,14 @@ use crate::whole::headers::{put_array_header, put_list_header, put_map_header, p
 use crate::whole::numbers::write_numbers;
 use crate::whole::rare::{write_rare, write_rare_payload};
 use amqp_data::{Described, EncodingCodes};
-use amqp_ser::Header;
+use amqp_ser::Hint;
 
 /// Appends the encoding of a value.
 #[inline(always)]
 #[cycle(write)]
-pub(crate) fn write(value: &Value, headers: &[Header], taken: &mut usize, out: &mut Vec<u8>) -> bool
+pub(crate) fn write(value: &Value, hints: &[Hint], taken: &mut usize, out: &mut Vec<u8>) -> bool
     ensures wrote { result ≡ true → Wrote (tree_of value.now) out.old.items out.new.items }
     ensures kept { Grows out.old out.new }
-    ensures taken { result ≡ true → taken.new ≡ taken.old + length (headers_of (tree_of value.now)) }
 {
     match value {
         Value::Null => put_few(&[EncodingCodes::Null as u8], out),
@@ -45,10 +43,10 @@ pub(crate) fn write(value: &Value, headers: &[Header], taken: &mut usize, out: &
         Value::Binary(v) => put_binary(v.as_inner(), out),
         Value::String(v) => put_string(v.as_bytes(), out),
         Value::Symbol(v) => put_symbol(v.as_inner().as_bytes(), out),
-        Value::List(v) => write_list(v, headers, taken, out),
-        Value::Map(v) => write_map(v.as_slice(), headers, taken, out),
-        Value::Array(v) => write_array(v.as_inner(), headers, taken, out),
-        Value::Described(v) => write_described(v, headers, taken, out),
+        Value::List(v) => write_list(v, hints, taken, out),
+        Value::Map(v) => write_map(v.as_slice(), hints, taken, out),
+        Value::Array(v) => write_array(v.as_inner(), hints, taken, out),
+        Value::Described(v) => write_described(v, hints, taken, out),
         _ => write_rare(value, out),
     }
 }
@@ -56,17 +54,16 @@ pub(crate) fn write(value: &Value, headers: &[Header], taken: &mut usize, out: &
 /// Appends a list.
 #[inline(never)]
 #[cycle(write)]
-fn write_list(items: &[Value], headers: &[Header], taken: &mut usize, out: &mut Vec<u8>) -> bool
+fn write_list(items: &[Value], hints: &[Hint], taken: &mut usize, out: &mut Vec<u8>) -> bool
     ensures wrote { result ≡ true → Wrote (list (all_of items.now)) out.old.items out.new.items }
     ensures kept { Grows out.old out.new }
-    ensures taken { result ≡ true → taken.new ≡ taken.old + length (headers_of (list (all_of items.now))) }
 {
-    let len = next(headers, taken);
+    let len = next(hints, taken);
     if !put_list_header(len, items.len(), out) {
         return false;
     }
     let start = out.len();
-    if !write_items(items, headers, taken, out) {
+    if !write_items(items, hints, taken, out) {
         return false;
     }
     out.len() - start == len
@@ -75,13 +72,12 @@ fn write_list(items: &[Value], headers: &[Header], taken: &mut usize, out: &mut 
 /// Appends the encodings of the elements of a list.
 #[inline(always)]
 #[cycle(write)]
-fn write_items(items: &[Value], headers: &[Header], taken: &mut usize, out: &mut Vec<u8>) -> bool
+fn write_items(items: &[Value], hints: &[Hint], taken: &mut usize, out: &mut Vec<u8>) -> bool
     ensures wrote { result ≡ true → WroteEach (all_of items.now) out.old.items out.new.items }
     ensures kept { Grows out.old out.new }
-    ensures taken { result ≡ true → taken.new ≡ taken.old + length (headers_of_each (all_of items.now)) }
 {
     for item in items {
-        if !write(item, headers, taken, out) {
+        if !write(item, hints, taken, out) {
             return false;
         }
     }
@@ -91,22 +87,16 @@ fn write_items(items: &[Value], headers: &[Header], taken: &mut usize, out: &mut
 /// Appends a map.
 #[inline(never)]
 #[cycle(write)]
-fn write_map(
-    pairs: &[(Value, Value)],
-    headers: &[Header],
-    taken: &mut usize,
-    out: &mut Vec<u8>,
-) -> bool
+fn write_map(pairs: &[(Value, Value)], hints: &[Hint], taken: &mut usize, out: &mut Vec<u8>) -> bool
     ensures wrote { result ≡ true → Wrote (map (pairs_trees pairs.now)) out.old.items out.new.items }
     ensures kept { Grows out.old out.new }
-    ensures taken { result ≡ true → taken.new ≡ taken.old + length (headers_of (map (pairs_trees pairs.now))) }
 {
-    let len = next(headers, taken);
+    let len = next(hints, taken);
     if !put_map_header(len, pairs.len().saturating_mul(2), out) {
         return false;
     }
     let start = out.len();
-    if !write_pairs(pairs, headers, taken, out) {
+    if !write_pairs(pairs, hints, taken, out) {
         return false;
     }
     out.len() - start == len
@@ -117,19 +107,18 @@ fn write_map(
 #[cycle(write)]
 fn write_pairs(
     pairs: &[(Value, Value)],
-    headers: &[Header],
+    hints: &[Hint],
     taken: &mut usize,
     out: &mut Vec<u8>,
 ) -> bool
     ensures wrote { result ≡ true → WrotePairs (pairs_trees pairs.now) out.old.items out.new.items }
     ensures kept { Grows out.old out.new }
-    ensures taken { result ≡ true → taken.new ≡ taken.old + length (headers_of_pairs (pairs_trees pairs.now)) }
 {
     let mut at = 0;
     while at < pairs.len() {
         let pair = &pairs[at];
-        let key = write(&pair.0, headers, taken, out);
-        let value = write_value(pairs, at, headers, taken, out);
+        let key = write(&pair.0, hints, taken, out);
+        let value = write_value(pairs, at, hints, taken, out);
         if !key {
             return false;
         }
@@ -148,7 +137,7 @@ fn write_pairs(
 fn write_value(
     pairs: &[(Value, Value)],
     at: usize,
-    headers: &[Header],
+    hints: &[Hint],
     taken: &mut usize,
     out: &mut Vec<u8>,
 ) -> bool
@@ -156,26 +145,23 @@ fn write_value(
     ensures wrote { (e : Value × Value) → e ≡ get_or pairs.now at e → result ≡ true →
         Wrote (tree_of e.1) out.old.items out.new.items }
     ensures kept { Grows out.old out.new }
-    ensures taken { (e : Value × Value) → e ≡ get_or pairs.now at e → result ≡ true →
-        taken.new ≡ taken.old + length (headers_of (tree_of e.1)) }
 {
-    write(&pairs[at].1, headers, taken, out)
+    write(&pairs[at].1, hints, taken, out)
 }
 
 /// Appends an array.
 #[inline(never)]
 #[cycle(write)]
-fn write_array(items: &[Value], headers: &[Header], taken: &mut usize, out: &mut Vec<u8>) -> bool
+fn write_array(items: &[Value], hints: &[Hint], taken: &mut usize, out: &mut Vec<u8>) -> bool
     ensures wrote { result ≡ true → Wrote (array (all_of items.now)) out.old.items out.new.items }
     ensures kept { Grows out.old out.new }
-    ensures taken { result ≡ true → taken.new ≡ taken.old + length (headers_of (array (all_of items.now))) }
 {
-    let len = next(headers, taken);
+    let len = next(hints, taken);
     if !put_array_header(len, items.len(), out) {
         return false;
     }
     let start = out.len();
-    if !write_content(items, headers, taken, out) {
+    if !write_content(items, hints, taken, out) {
         return false;
     }
     out.len() - start == len
@@ -184,10 +170,9 @@ fn write_array(items: &[Value], headers: &[Header], taken: &mut usize, out: &mut
 /// Appends the content of an array: the constructor and the payloads of the elements.
 #[inline(always)]
 #[cycle(write)]
-fn write_content(items: &[Value], headers: &[Header], taken: &mut usize, out: &mut Vec<u8>) -> bool
+fn write_content(items: &[Value], hints: &[Hint], taken: &mut usize, out: &mut Vec<u8>) -> bool
     ensures wrote { result ≡ true → WroteContent (all_of items.now) out.old.items out.new.items }
     ensures kept { Grows out.old out.new }
-    ensures taken { result ≡ true → taken.new ≡ taken.old + length (headers_of_each (all_of items.now)) }
 {
     match items.first() {
         None => true,
@@ -199,7 +184,7 @@ fn write_content(items: &[Value], headers: &[Header], taken: &mut usize, out: &m
             if !put_few(&[code], out) {
                 return false;
             }
-            write_elements(items, code, headers, taken, out)
+            write_elements(items, code, hints, taken, out)
         }
     }
 }
@@ -211,14 +196,13 @@ fn write_content(items: &[Value], headers: &[Header], taken: &mut usize, out: &m
 fn write_elements(
     items: &[Value],
     code: u8,
-    headers: &[Header],
+    hints: &[Hint],
     taken: &mut usize,
     out: &mut Vec<u8>,
 ) -> bool
     ensures wrote { result ≡ true → 0 < code →
         WrotePayloads code (all_of items.now) out.old.items out.new.items }
     ensures kept { Grows out.old out.new }
-    ensures taken { result ≡ true → taken.new ≡ taken.old + length (headers_of_each (all_of items.now)) }
 {
     match code {
         0x70 => write_numbers(items, 0x70, 4, out),
@@ -226,7 +210,7 @@ fn write_elements(
         0x80 => write_numbers(items, 0x80, 8, out),
         0x81 => write_numbers(items, 0x81, 8, out),
         0x82 => write_numbers(items, 0x82, 8, out),
-        _ => write_payloads(items, code, headers, taken, out),
+        _ => write_payloads(items, code, hints, taken, out),
     }
 }
 
@@ -236,19 +220,18 @@ fn write_elements(
 fn write_payloads(
     items: &[Value],
     code: u8,
-    headers: &[Header],
+    hints: &[Hint],
     taken: &mut usize,
     out: &mut Vec<u8>,
 ) -> bool
     ensures wrote { result ≡ true → 0 < code → WrotePayloads code (all_of items.now) out.old.items out.new.items }
     ensures kept { Grows out.old out.new }
-    ensures taken { result ≡ true → taken.new ≡ taken.old + length (headers_of_each (all_of items.now)) }
 {
     for item in items {
         if constructor_of(item) != code {
             return false;
         }
-        if !write_payload(item, headers, taken, out) {
+        if !write_payload(item, hints, taken, out) {
             return false;
         }
     }
@@ -259,10 +242,9 @@ fn write_payloads(
 /// are not among them.
 #[inline(always)]
 #[cycle(write)]
-fn write_payload(value: &Value, headers: &[Header], taken: &mut usize, out: &mut Vec<u8>) -> bool
+fn write_payload(value: &Value, hints: &[Hint], taken: &mut usize, out: &mut Vec<u8>) -> bool
     ensures wrote { result ≡ true → WrotePayload (tree_of value.now) out.old.items out.new.items }
     ensures kept { Grows out.old out.new }
-    ensures taken { result ≡ true → taken.new ≡ taken.old + length (headers_of (tree_of value.now)) }
 {
     match value {
         Value::Bool(true) => put_few(&[1], out),
@@ -270,9 +252,9 @@ fn write_payload(value: &Value, headers: &[Header], taken: &mut usize, out: &mut
         Value::Binary(v) => put_text_payload(v.as_inner(), out),
         Value::String(v) => put_text_payload(v.as_bytes(), out),
         Value::Symbol(v) => put_text_payload(v.as_inner().as_bytes(), out),
-        Value::List(v) => write_wide_list(v, headers, taken, out),
-        Value::Map(v) => write_wide_map(v.as_slice(), headers, taken, out),
-        Value::Array(v) => write_wide_array(v.as_inner(), headers, taken, out),
+        Value::List(v) => write_wide_list(v, hints, taken, out),
+        Value::Map(v) => write_wide_map(v.as_slice(), hints, taken, out),
+        Value::Array(v) => write_wide_array(v.as_inner(), hints, taken, out),
         _ => write_rare_payload(value, out),
     }
 }
@@ -280,22 +262,16 @@ fn write_payload(value: &Value, headers: &[Header], taken: &mut usize, out: &mut
 /// Appends the payload of a list in an array.
 #[inline(never)]
 #[cycle(write)]
-fn write_wide_list(
-    items: &[Value],
-    headers: &[Header],
-    taken: &mut usize,
-    out: &mut Vec<u8>,
-) -> bool
+fn write_wide_list(items: &[Value], hints: &[Hint], taken: &mut usize, out: &mut Vec<u8>) -> bool
     ensures wrote { result ≡ true → WrotePayload (list (all_of items.now)) out.old.items out.new.items }
     ensures kept { Grows out.old out.new }
-    ensures taken { result ≡ true → taken.new ≡ taken.old + length (headers_of (list (all_of items.now))) }
 {
-    let len = next(headers, taken);
+    let len = next(hints, taken);
     if !put_wide_header(len, items.len(), out) {
         return false;
     }
     let start = out.len();
-    if !write_items(items, headers, taken, out) {
+    if !write_items(items, hints, taken, out) {
         return false;
     }
     out.len() - start == len
@@ -306,20 +282,19 @@ fn write_wide_list(
 #[cycle(write)]
 fn write_wide_map(
     pairs: &[(Value, Value)],
-    headers: &[Header],
+    hints: &[Hint],
     taken: &mut usize,
     out: &mut Vec<u8>,
 ) -> bool
     ensures wrote { result ≡ true → WrotePayload (map (pairs_trees pairs.now)) out.old.items out.new.items }
     ensures kept { Grows out.old out.new }
-    ensures taken { result ≡ true → taken.new ≡ taken.old + length (headers_of (map (pairs_trees pairs.now))) }
 {
-    let len = next(headers, taken);
+    let len = next(hints, taken);
     if !put_wide_header(len, pairs.len().saturating_mul(2), out) {
         return false;
     }
     let start = out.len();
-    if !write_pairs(pairs, headers, taken, out) {
+    if !write_pairs(pairs, hints, taken, out) {
         return false;
     }
     out.len() - start == len
@@ -328,22 +303,16 @@ fn write_wide_map(
 /// Appends the payload of an array in an array.
 #[inline(never)]
 #[cycle(write)]
-fn write_wide_array(
-    items: &[Value],
-    headers: &[Header],
-    taken: &mut usize,
-    out: &mut Vec<u8>,
-) -> bool
+fn write_wide_array(items: &[Value], hints: &[Hint], taken: &mut usize, out: &mut Vec<u8>) -> bool
     ensures wrote { result ≡ true → WrotePayload (array (all_of items.now)) out.old.items out.new.items }
     ensures kept { Grows out.old out.new }
-    ensures taken { result ≡ true → taken.new ≡ taken.old + length (headers_of (array (all_of items.now))) }
 {
-    let len = next(headers, taken);
+    let len = next(hints, taken);
     if !put_wide_header(len, items.len(), out) {
         return false;
     }
     let start = out.len();
-    if !write_content(items, headers, taken, out) {
+    if !write_content(items, hints, taken, out) {
         return false;
     }
     out.len() - start == len
@@ -354,7 +323,7 @@ fn write_wide_array(
 #[cycle(write)]
 fn write_described(
     described: &Described<Value>,
-    headers: &[Header],
+    hints: &[Hint],
     taken: &mut usize,
     out: &mut Vec<u8>,
 ) -> bool
@@ -362,7 +331,6 @@ fn write_described(
         Wrote (tree.described (descriptor_content described.now.descriptor) (tree_of described.now.value))
         out.old.items out.new.items }
     ensures kept { Grows out.old out.new }
-    ensures taken { result ≡ true → taken.new ≡ taken.old + length (headers_of (tree_of described.now.value)) }
 {
     if !put_few(&[EncodingCodes::DescribedType as u8], out) {
         return false;
@@ -370,5 +338,5 @@ fn write_described(
     if !put_descriptor(&described.descriptor, out) {
         return false;
     }
-    write(&described.value, headers, taken, out)
+    write(&described.value, hints, taken, out)
 }

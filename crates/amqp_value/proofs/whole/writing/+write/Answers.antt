@@ -3,15 +3,13 @@ use Rattle.std.proofs.lemmas.Bool.Decides.{nat_tests}
 use Rattle.std.proofs.lemmas.List.{drop_all}
 use Rattle.amqp_ser.specs.Encoding.{constructor}
 use Rattle.amqp_ser.specs.Carried.{descriptor_content}
-use Rattle.amqp_ser.specs.Headers.{headers_of}
 use Rattle.amqp_ser.specs.Tree.{map}
 use Rattle.amqp_value.specs.TreeOf.{tree_of, pairs_trees, all_of}
 use Rattle.amqp_value.specs.declared.value.Value.{Value}
 use Rattle.amqp_value.proofs.TreeLemmas.{tree_of-Map}
 use Rattle.amqp_value.specs.Wrote.{Wrote, WrotePayload}
 use Rattle.amqp_value.proofs.MeasuredLemmas.{count-all_of}
-use Rattle.amqp_value.proofs.NotedLemmas.{numbers_taken}
-use Rattle.amqp_value.proofs.WroteLemmas.{grows_more, each_taken, pair_taken, same_item, cons_pair, of_list, of_list_payload, of_map, of_map_payload, of_array, of_array_payload, of_described, none_each, none_pairs, none_payloads, each_step, pair_step, payload_step, same_len, twice}
+use Rattle.amqp_value.proofs.WroteLemmas.{grows_more, same_item, cons_pair, of_list, of_list_payload, of_map, of_map_payload, of_array, of_array_payload, of_described, none_each, none_pairs, none_payloads, each_step, pair_step, payload_step, same_len, twice}
 use Rattle.amqp_value.proofs.whole.writing.+write.Goals as goal
 
 pub write-returns-in-Map-clause-wrote : goal.write-returns-in-Map-clause-wrote
@@ -69,10 +67,7 @@ write_items-loop-item-preserved t c =
     let i = c.loop-item.invariant in
     let ok = c.if-not-write.false in (
       each_step c.args.items.now c.loop-item.item-index c.item-item.result c.args.out.now.items c.loop-item.out.items c.write.new.out.items c.loop-item-test.true c.item-item.is i.0 (c.write.ensures.wrote ok),
-      (
-        grows_more c.args.out.now c.loop-item.out c.write.new.out i.1.0 c.write.ensures.kept,
-        each_taken c.args.items.now c.loop-item.item-index c.item-item.result c.args.taken.now c.loop-item.taken c.write.new.taken c.loop-item-test.true c.item-item.is i.1.1 (c.write.ensures.taken ok),
-      ),
+      grows_more c.args.out.now c.loop-item.out c.write.new.out i.1 c.write.ensures.kept,
     )
 
 pub write_pairs-loop-at-preserved : goal.write_pairs-loop-at-preserved
@@ -80,15 +75,10 @@ write_pairs-loop-at-preserved t c =
     let i = c.loop-at.invariant in
     let e = c.index-pairs-at.result in
     let key = c.if-not-key.false in
-    let value = c.if-not-value.false in
-    let sum : c.write_value-value.new.taken ≡ c.loop-at.taken + length (headers_of (tree_of e.0)) + length (headers_of (tree_of e.1)) =
-    let k = c.write-key.ensures.taken key in let v = c.write_value-value.ensures.taken e c.index-pairs-at.is value in omega arith in (
+    let value = c.if-not-value.false in (
       pair_step c.args.pairs.now c.loop-at.at e c.args.out.now.items c.loop-at.out.items c.write_value-value.new.out.items c.loop-at-test.true c.index-pairs-at.is i.0
           (λ ps b rest. cons_pair (tree_of e.0) (tree_of e.1) ps c.loop-at.out.items c.write-key.new.out.items c.write_value-value.new.out.items b (c.write-key.ensures.wrote key) (c.write_value-value.ensures.wrote e c.index-pairs-at.is value) rest),
-      (
-        grows_more c.args.out.now c.write-key.new.out c.write_value-value.new.out (grows_more c.args.out.now c.loop-at.out c.write-key.new.out i.1.0 c.write-key.ensures.kept) c.write_value-value.ensures.kept,
-        pair_taken c.args.pairs.now c.loop-at.at e c.args.taken.now c.loop-at.taken c.write_value-value.new.taken c.loop-at-test.true c.index-pairs-at.is i.1.1 sum,
-      ),
+      grows_more c.args.out.now c.write-key.new.out c.write_value-value.new.out (grows_more c.args.out.now c.loop-at.out c.write-key.new.out i.1 c.write-key.ensures.kept) c.write_value-value.ensures.kept,
     )
 
 pub write_payloads-loop-item-preserved : goal.write_payloads-loop-item-preserved
@@ -98,10 +88,7 @@ write_payloads-loop-item-preserved t c =
     let same : c.constructor_of.result ≡ c.args.code = grind (arith, nat_tests) in (
       λ some. payload_step c.args.code c.args.items.now c.loop-item.item-index c.item-item.result c.args.out.now.items c.loop-item.out.items c.write_payload.new.out.items c.loop-item-test.true c.item-item.is
           (i.0 some) (subst (λ k. 0 < k → constructor (tree_of c.item-item.result) ≡ Some k) same c.constructor_of.ensures.some some) (c.write_payload.ensures.wrote ok),
-      (
-        grows_more c.args.out.now c.loop-item.out c.write_payload.new.out i.1.0 c.write_payload.ensures.kept,
-        each_taken c.args.items.now c.loop-item.item-index c.item-item.result c.args.taken.now c.loop-item.taken c.write_payload.new.taken c.loop-item-test.true c.item-item.is i.1.1 (c.write_payload.ensures.taken ok),
-      ),
+      grows_more c.args.out.now c.loop-item.out c.write_payload.new.out i.1 c.write_payload.ensures.kept,
     )
 
 pub write_items-returns-clause-wrote : goal.write_items-returns-clause-wrote
@@ -151,11 +138,11 @@ write_wide_map-returns-then-not-write_pairs-clause-kept t c = grows_more c.args.
 
 pub write_pairs-returns-then-not-key-clause-kept : goal.write_pairs-returns-then-not-key-clause-kept
 write_pairs-returns-then-not-key-clause-kept t c =
-    grows_more c.args.out.now c.write-key.new.out c.write_value-value.new.out (grows_more c.args.out.now c.loop-at.out c.write-key.new.out c.loop-at.invariant.1.0 c.write-key.ensures.kept) c.write_value-value.ensures.kept
+    grows_more c.args.out.now c.write-key.new.out c.write_value-value.new.out (grows_more c.args.out.now c.loop-at.out c.write-key.new.out c.loop-at.invariant.1 c.write-key.ensures.kept) c.write_value-value.ensures.kept
 
 pub write_pairs-returns-then-not-value-clause-kept : goal.write_pairs-returns-then-not-value-clause-kept
 write_pairs-returns-then-not-value-clause-kept t c =
-    grows_more c.args.out.now c.write-key.new.out c.write_value-value.new.out (grows_more c.args.out.now c.loop-at.out c.write-key.new.out c.loop-at.invariant.1.0 c.write-key.ensures.kept) c.write_value-value.ensures.kept
+    grows_more c.args.out.now c.write-key.new.out c.write_value-value.new.out (grows_more c.args.out.now c.loop-at.out c.write-key.new.out c.loop-at.invariant.1 c.write-key.ensures.kept) c.write_value-value.ensures.kept
 
 pub write_described-returns-clause-wrote : goal.write_described-returns-clause-wrote
 write_described-returns-clause-wrote t c ok =
@@ -167,23 +154,3 @@ pub write_value-returns-clause-wrote : goal.write_value-returns-clause-wrote
 write_value-returns-clause-wrote t c e is ok =
     let same = same_item c.args.pairs.now c.args.at c.index-pairs-at.result e c.requires c.index-pairs-at.is is in
     subst (λ (w : Value × Value). Wrote (tree_of w.1) c.args.out.now.items c.write.new.out.items) (sym c.index-pairs-at.is ∙ same) (c.write.ensures.wrote ok)
-
-pub write_value-returns-clause-taken : goal.write_value-returns-clause-taken
-write_value-returns-clause-taken t c e is ok =
-    let same = same_item c.args.pairs.now c.args.at c.index-pairs-at.result e c.requires c.index-pairs-at.is is in
-    subst (λ (w : Value × Value). c.write.new.taken ≡ c.args.taken.now + length (headers_of (tree_of w.1))) (sym c.index-pairs-at.is ∙ same) (c.write.ensures.taken ok)
-
-pub write_elements-returns-in-112-clause-taken : goal.write_elements-returns-in-112-clause-taken
-write_elements-returns-in-112-clause-taken t c ok = numbers_taken (all_of c.args.items.now) 112 _ _ _ (c.write_numbers.ensures.wrote ok (omega arith)) (omega arith)
-
-pub write_elements-returns-in-113-clause-taken : goal.write_elements-returns-in-113-clause-taken
-write_elements-returns-in-113-clause-taken t c ok = numbers_taken (all_of c.args.items.now) 113 _ _ _ (c.write_numbers-in-113.ensures.wrote ok (omega arith)) (omega arith)
-
-pub write_elements-returns-in-128-clause-taken : goal.write_elements-returns-in-128-clause-taken
-write_elements-returns-in-128-clause-taken t c ok = numbers_taken (all_of c.args.items.now) 128 _ _ _ (c.write_numbers-in-128.ensures.wrote ok (omega arith)) (omega arith)
-
-pub write_elements-returns-in-129-clause-taken : goal.write_elements-returns-in-129-clause-taken
-write_elements-returns-in-129-clause-taken t c ok = numbers_taken (all_of c.args.items.now) 129 _ _ _ (c.write_numbers-in-129.ensures.wrote ok (omega arith)) (omega arith)
-
-pub write_elements-returns-in-130-clause-taken : goal.write_elements-returns-in-130-clause-taken
-write_elements-returns-in-130-clause-taken t c ok = numbers_taken (all_of c.args.items.now) 130 _ _ _ (c.write_numbers-in-130.ensures.wrote ok (omega arith)) (omega arith)
