@@ -118,14 +118,6 @@ within_limits_at (OtherElement c) t = within_limits t
 within_limits_at Descriptor t = within_limits t
 within_limits_at (Value h b) t = is_length (h + length (encoding t)) && within_limits t
 
-abbrev pub element_constructor : Position → Option ℕ
-element_constructor Root = None
-element_constructor InCompound = None
-element_constructor FirstElement = None
-element_constructor (OtherElement c) = Some c
-element_constructor Descriptor = None
-element_constructor (Value h b) = None
-
 -- The position of the value after a descriptor of this length. A described value is not a
 -- descriptor.
 abbrev pub described_position : Position → ℕ → Option Position

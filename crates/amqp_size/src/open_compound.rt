@@ -48,7 +48,7 @@ impl Model for OpenCompound {
 impl OpenCompound {
     ghost use Rattle.amqp_size.specs.State.{position_at, context_at};
     ghost use Rattle.amqp_size.specs.AddPart.{constructor_len_in, PassesLimit, Undescribed};
-    ghost use Rattle.amqp_size.specs.Position.{position_of, without_prefix, element_constructor, is_array, is_gathered, inner_context_of, described_context};
+    ghost use Rattle.amqp_size.specs.Position.{position_of, without_prefix, is_array, is_gathered, inner_context_of, described_context};
 
     /// Returns an empty compound of this kind at this position.
     #[inline(always)]
@@ -90,14 +90,6 @@ impl OpenCompound {
         ensures { result ≡ self.now.resolved_kind }
     {
         self.resolved_kind
-    }
-
-    /// Returns the constructor of the array's elements, if there is one yet.
-    #[inline(always)]
-    pub(crate) fn constructor(&self) -> Option<u8>
-        ensures { result ≡ element_constructor (position_of self.now.inner_context) }
-    {
-        self.inner_context.position().constructor()
     }
 
     /// Returns the position of the compound.

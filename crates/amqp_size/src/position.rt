@@ -2,7 +2,7 @@
 
 ghost use Rattle.std.specs.Prelude.{◌≡◌, ◌+◌, ℕ, Some, MatchResult};
 ghost use Rattle.amqp_size.specs.State.{position_at};
-ghost use Rattle.amqp_size.specs.Position.{without_prefix, base_position, takes_described, element_constructor, described_position, prefix_len_of};
+ghost use Rattle.amqp_size.specs.Position.{without_prefix, base_position, takes_described, described_position, prefix_len_of};
 
 use crate::size_error::SizeError;
 
@@ -102,17 +102,6 @@ impl Position {
         match self {
             Position::Value(_) => prefix_len,
             _ => 0,
-        }
-    }
-
-    /// Returns the constructor of the array's elements, if there is one yet.
-    #[inline(always)]
-    pub(crate) fn constructor(self) -> Option<u8>
-        ensures { (h : ℕ) → result ≡ element_constructor (position_at self h) }
-    {
-        match self {
-            Position::OtherElement(code) => Some(code),
-            _ => None,
         }
     }
 }

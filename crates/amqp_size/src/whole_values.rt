@@ -12,7 +12,7 @@ impl SizeSerializer {
     /// Returns whether a value is measured at once here: it has its ordinary form, and it is no
     /// part of a value that was not measured at once.
     #[inline(always)]
-    pub fn takes_whole(&self) -> bool
+    pub(crate) fn takes_whole(&self) -> bool
         ensures { result ≡ true → TakesWhole self.now.context }
     {
         match self.context {
@@ -24,7 +24,7 @@ impl SizeSerializer {
 
     /// Notes whether a value was measured at once: if not, its parts are measured one by one.
     #[inline(always)]
-    pub fn tried_whole(&mut self, measured: bool)
+    pub(crate) fn tried_whole(&mut self, measured: bool)
         ensures { self.new.context ≡ self.old.context }
     {
         self.tries_parts = measured;
