@@ -10,9 +10,6 @@ module _ {A T : Type 0} (R : A → T → Type 0) where
   abbrev pub ReadSoFar : List A → List A → List T → Type 0
   ReadSoFar whole rest xs = (done : List A) × (whole ≡ done ++ rest) × AllZip R done xs
 
-  pub read_none : (whole : List A) → ReadSoFar whole whole []
-  read_none whole = ([], refl, tt)
-
   pub read_one : (t : A) (rest : List A) (x : T) → R t x → ReadSoFar (t ∷ rest) rest (x ∷ [])
   read_one t rest x r = (t ∷ [], refl, (r, tt))
 

@@ -21,10 +21,6 @@ from_says : {A : Type 0} (k : A → Scalar) (o : Option A) (t : Tree) (n : ℕ) 
 from_says k None t n is e = absurd cc
 from_says k (Some a) t n is e = sym (ap class_in e) ∙ is a
 
-found_says : (o : Option Scalar) (t : Tree) (n : ℕ) → ((s : Scalar) → o ≡ Some s → class_of_scalar s ≡ n) → and_then o scalar_tree ≡ Some t → class_of t ≡ n
-found_says None t n is e = absurd cc
-found_says (Some s) t n is e = sym (ap class_in e) ∙ is s refl
-
 text_says : (k : List ℕ → Scalar) (bs : List ℕ) (t : Tree) (n : ℕ) → ((a : List ℕ) → class_of_scalar (k a) ≡ n) → (b : Bool)
     → and_then (if b then Some (k bs) else None) scalar_tree ≡ Some t → class_of t ≡ n
 text_says k bs t n is true e = sym (ap class_in e) ∙ is bs

@@ -201,10 +201,6 @@ Remains (Some old) (Some new) total rest = new + total ≡ old + rest
 Remains None (Some new) total rest = ⊥
 Remains (Some old) None total rest = ⊥
 
-pub remains-all : (o : Option ℕ) (n m : ℕ) → n ≡ m → Remains o o n m
-remains-all None n m e = tt
-remains-all (Some a) n m e = omega (arith, e)
-
 pub remains-step : (o l new : Option ℕ) (n k m r : ℕ) → m ≡ k + r → Remains o l n m → Leaves l new k → Remains o new n r
 remains-step None None None n k m r e h g = tt
 remains-step None None (Some c) n k m r e h g = absurd g
@@ -212,12 +208,6 @@ remains-step None (Some b) new n k m r e h g = absurd h
 remains-step (Some a) None new n k m r e h g = absurd h
 remains-step (Some a) (Some b) None n k m r e h g = absurd g
 remains-step (Some a) (Some b) (Some c) n k m r e h g = omega (arith, e, h, g)
-
-pub remains-none : (o l : Option ℕ) (n m : ℕ) → m ≡ 0 → Remains o l n m → Leaves o l n
-remains-none None None n m e h = tt
-remains-none None (Some b) n m e h = absurd h
-remains-none (Some a) None n m e h = absurd h
-remains-none (Some a) (Some b) n m e h = omega (arith, e, h)
 
 pub remains-exceeded : (o l : Option ℕ) (n k m r : ℕ) → m ≡ k + r → Remains o l n m → IsExceeded l k → IsExceeded o n
 remains-exceeded o None n k m r e h g = absurd g
@@ -256,16 +246,6 @@ leaves-at old new n m e h = subst (Leaves old new) e h
 pub array-count : (k : ContentCounter) (h : ContentReader) (c : ℕ) (code : EncodingCodes) (n : ℕ) (body rest : List ℕ) → primitive_of c ≡ Some code → body ≡ c ∷ rest
     → in_array k h (n, body) ≡ own_items code n + sum_of (in_payload k code) (payload_in h code) n rest
 array-count k h c code n body rest ok is = rw (is, ok) refl
-
--- What the content of a code's payload contains.
-pub shape-count : (d : ℕ) (c : EncodingCodes) (s : List ℕ) (p : PayloadShape) → shape_of_code c ≡ p
-    → in_shape (elements_without_bytes d) (parse d) (content_without_bytes d) (parse_content d) p s ≡ content_around d c s
-shape-count d c s p e = rw e refl
-
--- A call that takes nothing from the limit and is never refused for it.
-pub spends-none : {T : Type 0} (r : Result T Error) (o : Option ℕ) (n : ℕ) → n ≡ 0 → IfErr r (λ e. e ≡ TooLong → ⊥) → Spends r o o n
-spends-none (Ok v) o n e h = leaves-none o n e
-spends-none (Err g) o n e h = λ long. absurd (h long)
 
 pub leaves-within : (o new : Option ℕ) (n : ℕ) → Leaves o new n → IsWithin o n
 leaves-within None None n h = tt

@@ -202,17 +202,10 @@ named-descriptor code.Array8 bs r x is e = absurd cc
 named-descriptor code.Array32 bs r x is e = absurd cc
 named-descriptor code.DescribedType bs r x is e = absurd cc
 
-pub no-scalar-descriptor : (c : EncodingCodes) (bs r : List ℕ) → scalar_in c bs ≡ None → parsed_descriptor c (bs, r) ≡ None
-no-scalar-descriptor c bs r e = rw e refl
-
 module _ (b : ℕ) (s : List ℕ) (c : EncodingCodes) (x r : List ℕ) (is : primitive_of b ≡ Some c) (e : content_at (category (code_of c)) s ≡ Some (x, r)) where
   pub other-there : false ≡ names_descriptor c → descriptor_at (b ∷ s) ≡ None
   unfolding descriptor_at
   other-there other = rw (is, e) (other-descriptor c x r other)
-
-  pub none-there : scalar_in c x ≡ None → descriptor_at (b ∷ s) ≡ None
-  unfolding descriptor_at
-  none-there none = rw (is, e) (no-scalar-descriptor c x r none)
 
   pub found-there : true ≡ names_descriptor c → (v : Scalar) → scalar_in c x ≡ Some v → (d : Descriptor) × (descriptor_at (b ∷ s) ≡ Some (d, r))
   unfolding descriptor_at

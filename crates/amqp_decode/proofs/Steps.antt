@@ -17,11 +17,6 @@ use Rattle.amqp_decode.specs.Scalars.{and_then}
 use Rattle.amqp_decode.specs.Parsed.{FrameReader, ContentReader, gather, insert, all, parse_list, parse_map, parse_array, content_at, with_rest, payload_in, content_of, frame_in, parse, parse_content}
 use Rattle.amqp_decode.proofs.CodeLemmas.{named, primitive-found, primitive-nonzero}
 
-pub parse_content-zero : (d : ℕ) (c : EncodingCodes) (s : List ℕ) → d ≡ 0 → parse_content d c s ≡ None
-unfolding parse_content
-parse_content-zero zero c s e = refl
-parse_content-zero (suc d) c s e = absurd (omega arith)
-
 pub parse_content-at : (d : ℕ) (c : EncodingCodes) (s : List ℕ) → 0 < d → parse_content d c s ≡ content_of (parse (d - 1)) (parse_content (d - 1)) c s
 unfolding parse_content parse
 parse_content-at zero c s lt = absurd (omega arith)

@@ -21,12 +21,6 @@ use Rattle.amqp_size.proofs.Part.{end_taken}
 use Rattle.amqp_size.proofs.Transparent.{taken_transparent, refused_transparent, over_transparent}
 use Rattle.amqp_size.proofs.Single.{refused_single, second_single, first_single}
 
--- Between steps the serializer is at the position of the compound.
-pub at_rest : (start : SizeSerializer) (kind : CompoundKind) (compound : OpenCompound) (ps : List (Option Tree)) → Holding start kind compound ps → without_prefix compound.position ≡ without_prefix (position_of start.context)
-at_rest start kind compound ps (inl h) = ap without_prefix h.position
-at_rest start kind compound ps (inr (inl h)) = ap without_prefix h.position
-at_rest start kind compound ps (inr (inr h)) = h.position
-
 not_gathered : (s t : ResolvedKind) → s ≡ t → is_gathered t ≡ false → is_gathered s ≡ true → ⊥
 not_gathered s t q f g = let e = sym (ap is_gathered q) ∙ g in cc
 
@@ -46,16 +40,6 @@ pub transparent_of : (start : SizeSerializer) (kind : CompoundKind) (compound : 
 transparent_of start kind compound ps (inl h) s = absurd (not_gathered compound.resolved_kind resolved_kinds.Transparent s refl h.gathered)
 transparent_of start kind compound ps (inr (inl h)) s = h
 transparent_of start kind compound ps (inr (inr h)) s = absurd (not_single (sym s ∙ h.resolved_kind))
-
-pub single_shape : (start : SizeSerializer) (kind : CompoundKind) (compound : OpenCompound) (ps : List (Option Tree)) → Holding start kind compound ps → compound.resolved_kind ≡ resolved_kinds.Single → HoldsSingle start kind compound ps
-single_shape start kind compound ps (inl h) s = absurd (not_gathered compound.resolved_kind resolved_kinds.Single s refl h.gathered)
-single_shape start kind compound ps (inr (inl h)) s = absurd (not_single (sym h.resolved_kind ∙ s))
-single_shape start kind compound ps (inr (inr h)) s = h
-
-pub single_of : (start : SizeSerializer) (compound : OpenCompound) (ps : List (Option Tree)) → Holding start kinds.Single compound ps → HoldsSingle start kinds.Single compound ps
-single_of start compound ps (inl h) = absurd (not_gathered compound.resolved_kind resolved_kinds.Single h.resolved_kind refl h.gathered)
-single_of start compound ps (inr (inl h)) = absurd (no_list h.kind_is)
-single_of start compound ps (inr (inr h)) = h
 
 no_maps : (kinds.Map ≡ kinds.List → ⊥) × (kinds.Map ≡ kinds.Single → ⊥)
 no_maps = (λ q. cc, λ q. cc)

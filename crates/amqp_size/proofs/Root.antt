@@ -27,10 +27,6 @@ root_size (Some t) (Err e) after h = absurd h.0
 pub at_root : (s : SizeSerializer) (o : Option Tree) (r : Result ℕ SizeError) (after : SizeSerializer) → s.context ≡ Plain Root → SizePermits s o r after → AtPosition Root o r after.context
 at_root s o r after q h = subst (λ u. AtPosition (position_of u) (meant u o) r after.context) q h
 
--- The result is the length of the bytes.
-pub is_size : (s : SizeSerializer) (o : Option Tree) (r : Result ℕ SizeError) (after : SizeSerializer) → s.context ≡ Plain Root → SizePermits s o r after → IsSizeOf o (told r)
-is_size s o r after q h = (root_size o r after.context (at_root s o r after q h)).0
-
 -- Afterwards the serializer is at the root again.
 pub fresh : (s : SizeSerializer) (o : Option Tree) (r : Result ℕ SizeError) (after : SizeSerializer) → s.context ≡ Plain Root → SizePermits s o r after → after.context ≡ Plain Root
 fresh s o r after q h = (root_size o r after.context (at_root s o r after q h)).1

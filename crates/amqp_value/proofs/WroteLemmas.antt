@@ -173,9 +173,6 @@ none_pairs a = record { within_limits_all = refl; uniform_arrays_all = refl; ins
 pub none_payloads : (c : ℕ) (a : List ℕ) → WrotePayloads c no_trees a a
 none_payloads c a = record { within_limits_all = refl; uniform_arrays_all = refl; inside_all = refl; one = refl; out = nothing a }
 
-pub none_content : (a : List ℕ) → WroteContent no_trees a a
-none_content a = record { within_limits_all = refl; uniform_arrays_all = refl; inside_all = refl; one = refl; out = nothing a }
-
 pub each_step : (xs : List Value) (i : ℕ) (v : Value) (start a mid : List ℕ) → i < length xs → v ≡ get_or xs i v
     → ((b : List ℕ) → WroteEach (all_of (drop i xs)) a b → WroteEach (all_of xs) start b) → Wrote (tree_of v) a mid
     → (b : List ℕ) → WroteEach (all_of (drop (i + 1) xs)) mid b → WroteEach (all_of xs) start b
@@ -254,10 +251,6 @@ pub same_item : (es : List (Value × Value)) (i : ℕ) (d e : Value × Value) �
 same_item [] i d e lt a b = absurd (omega arith)
 same_item (x ∷ xs) zero d e lt a b = a ∙ sym b
 same_item (x ∷ xs) (suc i) d e lt a b = same_item xs i d e (omega arith) a b
-
--- Output that grows.
-pub grows_itself : (a : Vec ℕ Global) → Grows a a
-grows_itself a = (omega arith, ([], sym (append-nil a.items)))
 
 pub grows_more : (a b c : Vec ℕ Global) → Grows a b → Grows b c → Grows a c
 grows_more a b c h k = (omega arith, (h.1.0 ++ k.1.0, k.1.1 ∙ (ap (λ x. x ++ k.1.0) h.1.1 ∙ append_assoc a.items h.1.0 k.1.0)))

@@ -1,4 +1,4 @@
-use Rattle.std.proofs.Common.{◌≡◌, ◌≤◌, true, length, drop}
+use Rattle.std.proofs.Common.{◌≤◌, length, drop}
 use Rattle.amqp_value.specs.TreeOf.{all_of, pairs_trees}
 use Rattle.amqp_value.specs.Measured.{MeasuredEach, MeasuredPayloads, MeasuredPairs, IsLength}
 use Rattle.amqp_value.proofs.whole.measuring.+measure.Given as goal
