@@ -128,7 +128,7 @@ impl<'a> LazyMessage<'a> {
     ///
     /// # Memory
     /// Allocates from `alloc` once for the bytes, and for a table of 8 bytes for each compound of
-    /// the header and the annotations.
+    /// the header and the annotations, at least 128 bytes.
     pub fn to_vec(&self, alloc: Global) -> Result<Vec<u8>, MessageError>
         ensures written { IfOk result (λ v. (front : List ℕ)
             × PutsFront ⟦<Header as Serialize>⟧.tree ⟦<DeliveryAnnotations as Serialize>⟧.tree
@@ -160,7 +160,7 @@ impl<'a> LazyMessage<'a> {
         ensures { IfSome result (λ r. r.out.items ≡ []) }
     {
         let front = measure_front(
-            Measured::new(alloc),
+            Measured::new(alloc)?,
             &self.header,
             &self.delivery_annotations,
             &self.message_annotations,

@@ -142,7 +142,8 @@ impl Message {
     /// Returns the error of `to_vec` for a section as `Value`.
     ///
     /// # Memory
-    /// Allocates from `alloc` once for the bytes, and for a table of 8 bytes for each compound.
+    /// Allocates from `alloc` once for the bytes, and for a table of 8 bytes for each compound, at
+    /// least 128 bytes.
     pub fn to_vec(&self, alloc: Global) -> Result<Vec<u8>, MessageError>
         ensures written { IfOk result (λ all. (front bare : List ℕ)
             × PutsFront ⟦<Header as Serialize>⟧.tree ⟦<DeliveryAnnotations as Serialize>⟧.tree
@@ -189,7 +190,7 @@ impl Message {
         ensures { IfSome result (λ r. r.out.items ≡ []) }
     {
         let front = measure_front(
-            Measured::new(alloc),
+            Measured::new(alloc)?,
             &self.header,
             &self.delivery_annotations,
             &self.message_annotations,

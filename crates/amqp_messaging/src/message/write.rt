@@ -24,12 +24,14 @@ pub(crate) struct Measured {
 }
 
 impl Measured {
-    /// Creates a measurement of no sections.
-    pub(crate) fn new(alloc: Global) -> Measured {
-        Measured {
-            hints: Hints::with_memory(Vec::new(alloc)),
+    /// Creates a measurement of no sections, with room for 16 hints: the sections of a message seldom
+    /// have more compounds.
+    pub(crate) fn new(alloc: Global) -> Option<Measured> {
+        let memory = Vec::with_capacity(alloc, 16).ok()?;
+        Some(Measured {
+            hints: Hints::with_memory(memory),
             len: 0,
-        }
+        })
     }
 
     /// Returns the hints and a buffer of the length of the sections and this many more bytes.
