@@ -4,7 +4,7 @@ use Rattle.amqp_messaging.proofs.message.whole.Message.to_vec.Goals as goal
 
 pub returns-clause-written : goal.returns-clause-written
 returns-clause-written c =
-    let front = c.in_ok-front.ensures.puts in
-    let bare = c.in_ok-bare.ensures.puts in
-    let footer = c.in_ok-out-2.ensures.puts in
-    (c.in_ok-front.front.out.items, c.in_ok-bare.bare.out.items, search (after_nothing, front, c.in_ok-out.ensures.empty, rules), bare, search (footer, rules))
+    let front = c.in-Some-put_front.ensures in
+    let bare = c.in-Some-put_bare.ensures in
+    let footer = c.in-Some-put_section.ensures in
+    (c.in-Some-put_front.front.out.items, c.in-Some-put_bare.bare.out.items, search (after_nothing, front, c.in-Some.ensures, rules), bare, search (footer, rules))
