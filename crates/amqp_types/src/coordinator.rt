@@ -160,7 +160,7 @@ impl RoundTrip for Coordinator {
 
 impl TxnCapability {
     ghost use Rattle.std.specs.Prelude.{◌≡◌, List, ℕ, codes};
-    ghost use Rattle.amqp_links.specs.declared.coordinator.TxnCapability.TheVariants as variant;
+    ghost use Rattle.amqp_types.specs.declared.coordinator.TxnCapability.TheVariants as variant;
 
     /// Returns the text of the value.
     pub fn as_str(&self) -> &'static str
@@ -179,7 +179,7 @@ impl TxnCapability {
 impl Serialize for TxnCapability {
     ghost use Rattle.std.specs.Prelude.{Some, List, ℕ, codes};
     ghost use Rattle.serde_amqp.specs.Derive.{scalar, symbol};
-    ghost use Rattle.amqp_links.specs.declared.coordinator.TxnCapability.TheVariants as variant;
+    ghost use Rattle.amqp_types.specs.declared.coordinator.TxnCapability.TheVariants as variant;
 
     ghost tree = { λ x. Some (scalar (symbol (elim x as (λ _. List ℕ) [ variant.LocalTransactions ↦ codes "amqp:local-transactions" | variant.DistributedTransactions ↦ codes "amqp:distributed-transactions" | variant.PromotableTransactions ↦ codes "amqp:promotable-transactions" | variant.MultiTxnsPerSsn ↦ codes "amqp:multi-txns-per-ssn" | variant.MultiSsnsPerTxn ↦ codes "amqp:multi-ssns-per-txn" ]))) };
 
@@ -191,7 +191,7 @@ impl Serialize for TxnCapability {
 impl Deserialize for TxnCapability {
     ghost use Rattle.std.specs.Prelude.{◌≡◌, List, ℕ, codes};
     ghost use Rattle.serde_amqp.specs.Derive.{scalar, symbol, Always};
-    ghost use Rattle.amqp_links.specs.declared.coordinator.TxnCapability.TheVariants as variant;
+    ghost use Rattle.amqp_types.specs.declared.coordinator.TxnCapability.TheVariants as variant;
 
     ghost reads = { λ t x. t ≡ scalar (symbol (elim x as (λ _. List ℕ) [ variant.LocalTransactions ↦ codes "amqp:local-transactions" | variant.DistributedTransactions ↦ codes "amqp:distributed-transactions" | variant.PromotableTransactions ↦ codes "amqp:promotable-transactions" | variant.MultiTxnsPerSsn ↦ codes "amqp:multi-txns-per-ssn" | variant.MultiSsnsPerTxn ↦ codes "amqp:multi-ssns-per-txn" ])) };
 
@@ -264,7 +264,7 @@ impl RoundTrip for TxnCapability {
 
 impl Record for AnyTarget {
     ghost use Rattle.serde_amqp.specs.Derive.{This, Other};
-    ghost use Rattle.amqp_links.specs.declared.coordinator.AnyTarget.TheVariants as variant;
+    ghost use Rattle.amqp_types.specs.declared.coordinator.AnyTarget.TheVariants as variant;
 
     type Values = Either<Target, Either<Coordinator, Never>>;
 

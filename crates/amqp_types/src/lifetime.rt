@@ -404,7 +404,7 @@ impl RoundTrip for DeleteOnNoLinksOrMessages {
 
 impl Record for LifetimePolicy {
     ghost use Rattle.serde_amqp.specs.Derive.{This, Other};
-    ghost use Rattle.amqp_links.specs.declared.lifetime.LifetimePolicy.TheVariants as variant;
+    ghost use Rattle.amqp_types.specs.declared.lifetime.LifetimePolicy.TheVariants as variant;
 
     type Values = Either<
         DeleteOnClose,

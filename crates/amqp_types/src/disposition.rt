@@ -1,7 +1,7 @@
 //! The frame that tells the state of deliveries.
 
 use crate::modes::Role;
-use amqp_delivery::DeliveryState;
+use amqp_messaging::DeliveryState;
 
 /// Tells the state of a range of deliveries (AMQP 1.0 part 2, section 2.7.6).
 ///

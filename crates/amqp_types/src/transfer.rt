@@ -1,7 +1,7 @@
 //! The frame that carries a message.
 
 use crate::modes::ReceiverSettleMode;
-use amqp_delivery::DeliveryState;
+use amqp_messaging::DeliveryState;
 use serde_amqp::primitives::ByteBuf;
 
 /// Carries a message, or a part of it, as its payload (AMQP 1.0 part 2, section 2.7.5).

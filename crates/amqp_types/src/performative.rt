@@ -47,7 +47,7 @@ use serde_amqp::derive::{
 
 impl Record for Performative {
     ghost use Rattle.serde_amqp.specs.Derive.{This, Other};
-    ghost use Rattle.amqp_performatives.specs.declared.performative.Performative.TheVariants as variant;
+    ghost use Rattle.amqp_types.specs.declared.performative.Performative.TheVariants as variant;
 
     type Values = Either<
         Open,

@@ -1,6 +1,6 @@
 //! The frames that detach a link, end a session and close a connection.
 
-use amqp_delivery::AmqpError;
+use amqp_messaging::AmqpError;
 
 /// Detaches a link (AMQP 1.0 part 2, section 2.7.7).
 ///

@@ -50,7 +50,7 @@ use serde_amqp::derive::{
 impl Serialize for Role {
     ghost use Rattle.std.specs.Prelude.{Some, Bool, true, false};
     ghost use Rattle.serde_amqp.specs.Derive.{scalar, bool};
-    ghost use Rattle.amqp_performatives.specs.declared.modes.Role.TheVariants as variant;
+    ghost use Rattle.amqp_types.specs.declared.modes.Role.TheVariants as variant;
 
     ghost tree = { λ x. Some (scalar (bool (elim x as (λ _. Bool) [ variant.Sender ↦ false | variant.Receiver ↦ true ]))) };
 
@@ -65,7 +65,7 @@ impl Serialize for Role {
 impl Deserialize for Role {
     ghost use Rattle.std.specs.Prelude.{◌≡◌, Bool, true, false};
     ghost use Rattle.serde_amqp.specs.Derive.{scalar, bool, Always};
-    ghost use Rattle.amqp_performatives.specs.declared.modes.Role.TheVariants as variant;
+    ghost use Rattle.amqp_types.specs.declared.modes.Role.TheVariants as variant;
 
     ghost reads = { λ t x. t ≡ scalar (bool (elim x as (λ _. Bool) [ variant.Sender ↦ false | variant.Receiver ↦ true ])) };
 
@@ -104,7 +104,7 @@ impl RoundTrip for Role {
 impl Serialize for SenderSettleMode {
     ghost use Rattle.std.specs.Prelude.{Some, ℕ};
     ghost use Rattle.serde_amqp.specs.Derive.{scalar, ubyte};
-    ghost use Rattle.amqp_performatives.specs.declared.modes.SenderSettleMode.TheVariants as variant;
+    ghost use Rattle.amqp_types.specs.declared.modes.SenderSettleMode.TheVariants as variant;
 
     ghost tree = { λ x. Some (scalar (ubyte (elim x as (λ _. ℕ) [ variant.Unsettled ↦ 0 | variant.Settled ↦ 1 | variant.Mixed ↦ 2 ]))) };
 
@@ -120,7 +120,7 @@ impl Serialize for SenderSettleMode {
 impl Deserialize for SenderSettleMode {
     ghost use Rattle.std.specs.Prelude.{◌≡◌, ℕ};
     ghost use Rattle.serde_amqp.specs.Derive.{scalar, ubyte, Always};
-    ghost use Rattle.amqp_performatives.specs.declared.modes.SenderSettleMode.TheVariants as variant;
+    ghost use Rattle.amqp_types.specs.declared.modes.SenderSettleMode.TheVariants as variant;
 
     ghost reads = { λ t x. t ≡ scalar (ubyte (elim x as (λ _. ℕ) [ variant.Unsettled ↦ 0 | variant.Settled ↦ 1 | variant.Mixed ↦ 2 ])) };
 
@@ -164,7 +164,7 @@ impl RoundTrip for SenderSettleMode {
 impl Serialize for ReceiverSettleMode {
     ghost use Rattle.std.specs.Prelude.{Some, ℕ};
     ghost use Rattle.serde_amqp.specs.Derive.{scalar, ubyte};
-    ghost use Rattle.amqp_performatives.specs.declared.modes.ReceiverSettleMode.TheVariants as variant;
+    ghost use Rattle.amqp_types.specs.declared.modes.ReceiverSettleMode.TheVariants as variant;
 
     ghost tree = { λ x. Some (scalar (ubyte (elim x as (λ _. ℕ) [ variant.First ↦ 0 | variant.Second ↦ 1 ]))) };
 
@@ -179,7 +179,7 @@ impl Serialize for ReceiverSettleMode {
 impl Deserialize for ReceiverSettleMode {
     ghost use Rattle.std.specs.Prelude.{◌≡◌, ℕ};
     ghost use Rattle.serde_amqp.specs.Derive.{scalar, ubyte, Always};
-    ghost use Rattle.amqp_performatives.specs.declared.modes.ReceiverSettleMode.TheVariants as variant;
+    ghost use Rattle.amqp_types.specs.declared.modes.ReceiverSettleMode.TheVariants as variant;
 
     ghost reads = { λ t x. t ≡ scalar (ubyte (elim x as (λ _. ℕ) [ variant.First ↦ 0 | variant.Second ↦ 1 ])) };
 

@@ -54,7 +54,7 @@ use serde_amqp::derive::{
 impl Serialize for TerminusDurability {
     ghost use Rattle.std.specs.Prelude.{Some, ℕ};
     ghost use Rattle.serde_amqp.specs.Derive.{scalar, uint};
-    ghost use Rattle.amqp_links.specs.declared.terminus.TerminusDurability.TheVariants as variant;
+    ghost use Rattle.amqp_types.specs.declared.terminus.TerminusDurability.TheVariants as variant;
 
     ghost tree = { λ x. Some (scalar (uint (elim x as (λ _. ℕ) [ variant.None ↦ 0 | variant.Configuration ↦ 1 | variant.UnsettledState ↦ 2 ]))) };
 
@@ -70,7 +70,7 @@ impl Serialize for TerminusDurability {
 impl Deserialize for TerminusDurability {
     ghost use Rattle.std.specs.Prelude.{◌≡◌, ℕ};
     ghost use Rattle.serde_amqp.specs.Derive.{scalar, uint, Always};
-    ghost use Rattle.amqp_links.specs.declared.terminus.TerminusDurability.TheVariants as variant;
+    ghost use Rattle.amqp_types.specs.declared.terminus.TerminusDurability.TheVariants as variant;
 
     ghost reads = { λ t x. t ≡ scalar (uint (elim x as (λ _. ℕ) [ variant.None ↦ 0 | variant.Configuration ↦ 1 | variant.UnsettledState ↦ 2 ])) };
 
@@ -113,7 +113,7 @@ impl RoundTrip for TerminusDurability {
 
 impl TerminusExpiryPolicy {
     ghost use Rattle.std.specs.Prelude.{◌≡◌, List, ℕ, codes};
-    ghost use Rattle.amqp_links.specs.declared.terminus.TerminusExpiryPolicy.TheVariants as variant;
+    ghost use Rattle.amqp_types.specs.declared.terminus.TerminusExpiryPolicy.TheVariants as variant;
 
     /// Returns the text of the value.
     pub fn as_str(&self) -> &'static str
@@ -131,7 +131,7 @@ impl TerminusExpiryPolicy {
 impl Serialize for TerminusExpiryPolicy {
     ghost use Rattle.std.specs.Prelude.{Some, List, ℕ, codes};
     ghost use Rattle.serde_amqp.specs.Derive.{scalar, symbol};
-    ghost use Rattle.amqp_links.specs.declared.terminus.TerminusExpiryPolicy.TheVariants as variant;
+    ghost use Rattle.amqp_types.specs.declared.terminus.TerminusExpiryPolicy.TheVariants as variant;
 
     ghost tree = { λ x. Some (scalar (symbol (elim x as (λ _. List ℕ) [ variant.LinkDetach ↦ codes "link-detach" | variant.SessionEnd ↦ codes "session-end" | variant.ConnectionClose ↦ codes "connection-close" | variant.Never ↦ codes "never" ]))) };
 
@@ -143,7 +143,7 @@ impl Serialize for TerminusExpiryPolicy {
 impl Deserialize for TerminusExpiryPolicy {
     ghost use Rattle.std.specs.Prelude.{◌≡◌, List, ℕ, codes};
     ghost use Rattle.serde_amqp.specs.Derive.{scalar, symbol, Always};
-    ghost use Rattle.amqp_links.specs.declared.terminus.TerminusExpiryPolicy.TheVariants as variant;
+    ghost use Rattle.amqp_types.specs.declared.terminus.TerminusExpiryPolicy.TheVariants as variant;
 
     ghost reads = { λ t x. t ≡ scalar (symbol (elim x as (λ _. List ℕ) [ variant.LinkDetach ↦ codes "link-detach" | variant.SessionEnd ↦ codes "session-end" | variant.ConnectionClose ↦ codes "connection-close" | variant.Never ↦ codes "never" ])) };
 
@@ -210,7 +210,7 @@ impl RoundTrip for TerminusExpiryPolicy {
 
 impl DistributionMode {
     ghost use Rattle.std.specs.Prelude.{◌≡◌, List, ℕ, codes};
-    ghost use Rattle.amqp_links.specs.declared.terminus.DistributionMode.TheVariants as variant;
+    ghost use Rattle.amqp_types.specs.declared.terminus.DistributionMode.TheVariants as variant;
 
     /// Returns the text of the value.
     pub fn as_str(&self) -> &'static str
@@ -226,7 +226,7 @@ impl DistributionMode {
 impl Serialize for DistributionMode {
     ghost use Rattle.std.specs.Prelude.{Some, List, ℕ, codes};
     ghost use Rattle.serde_amqp.specs.Derive.{scalar, symbol};
-    ghost use Rattle.amqp_links.specs.declared.terminus.DistributionMode.TheVariants as variant;
+    ghost use Rattle.amqp_types.specs.declared.terminus.DistributionMode.TheVariants as variant;
 
     ghost tree = { λ x. Some (scalar (symbol (elim x as (λ _. List ℕ) [ variant.Move ↦ codes "move" | variant.Copy ↦ codes "copy" ]))) };
 
@@ -238,7 +238,7 @@ impl Serialize for DistributionMode {
 impl Deserialize for DistributionMode {
     ghost use Rattle.std.specs.Prelude.{◌≡◌, List, ℕ, codes};
     ghost use Rattle.serde_amqp.specs.Derive.{scalar, symbol, Always};
-    ghost use Rattle.amqp_links.specs.declared.terminus.DistributionMode.TheVariants as variant;
+    ghost use Rattle.amqp_types.specs.declared.terminus.DistributionMode.TheVariants as variant;
 
     ghost reads = { λ t x. t ≡ scalar (symbol (elim x as (λ _. List ℕ) [ variant.Move ↦ codes "move" | variant.Copy ↦ codes "copy" ])) };
 

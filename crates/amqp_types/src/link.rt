@@ -1,8 +1,9 @@
 //! The frame that attaches a link.
 
+use crate::coordinator::AnyTarget;
 use crate::modes::{ReceiverSettleMode, Role, SenderSettleMode};
-use amqp_delivery::DeliveryState;
-use amqp_links::{AnyTarget, Source};
+use crate::source::Source;
+use amqp_messaging::DeliveryState;
 use serde_amqp::Value;
 use serde_amqp::primitives::{ByteBuf, Multiple, OrderedMap, Symbol};
 
@@ -47,8 +48,8 @@ pub struct Attach {
 impl Attach {
     ghost use Rattle.std.specs.Prelude.{◌≡◌};
     ghost use Rattle.serde_amqp.specs.Derive.{value_or};
-    ghost use Rattle.amqp_performatives.specs.declared.modes.SenderSettleMode.TheVariants as sender_settle_mode;
-    ghost use Rattle.amqp_performatives.specs.declared.modes.ReceiverSettleMode.TheVariants as receiver_settle_mode;
+    ghost use Rattle.amqp_types.specs.declared.modes.SenderSettleMode.TheVariants as sender_settle_mode;
+    ghost use Rattle.amqp_types.specs.declared.modes.ReceiverSettleMode.TheVariants as receiver_settle_mode;
 
     /// Returns `snd_settle_mode`, or `SenderSettleMode::Mixed` if it is absent.
     pub fn snd_settle_mode_or_default(&self) -> SenderSettleMode

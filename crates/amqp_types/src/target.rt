@@ -1,18 +1,17 @@
-//! Where the messages of a link come from.
+//! Where the messages of a link go to.
 
-use crate::terminus::{DistributionMode, TerminusDurability, TerminusExpiryPolicy};
-use amqp_delivery::Outcome;
+use crate::terminus::{TerminusDurability, TerminusExpiryPolicy};
 use amqp_messaging::Address;
 use serde_amqp::Value;
 use serde_amqp::primitives::{Multiple, OrderedMap, Symbol};
 
-/// Where the messages of a link come from (AMQP 1.0 part 3, section 3.5.3).
+/// Where the messages of a link go to (AMQP 1.0 part 3, section 3.5.4).
 ///
 /// # Encoding
-/// A list of the fields, described by the code 0x28.
-// amqp: encoding = "list", code = 0x28, name = "amqp:source:list", rename_all = "kebab-case", no_one_pass
+/// A list of the fields, described by the code 0x29.
+// amqp: encoding = "list", code = 0x29, name = "amqp:target:list", rename_all = "kebab-case", no_one_pass
 #[derive(Debug, PartialEq, Drop)]
-pub struct Source {
+pub struct Target {
     /// The node.
     pub address: Option<Address>,
     /// Which state of the terminus survives a failure.
@@ -27,23 +26,15 @@ pub struct Source {
     pub dynamic: Option<bool>,
     /// The properties of the created node.
     pub dynamic_node_properties: Option<OrderedMap<Symbol, Value>>,
-    /// Whether the link moves or copies messages.
-    pub distribution_mode: Option<DistributionMode>,
-    /// Which messages the link transfers.
-    pub filter: Option<OrderedMap<Symbol, Value>>,
-    /// The outcome of deliveries that are settled without one.
-    pub default_outcome: Option<Outcome>,
-    /// The outcomes that the link supports.
-    pub outcomes: Option<Multiple<Symbol>>,
-    /// The extensions that the source supports or wants.
+    /// The extensions that the target supports or wants.
     pub capabilities: Option<Multiple<Symbol>>,
 }
 
-impl Source {
+impl Target {
     ghost use Rattle.std.specs.Prelude.{◌≡◌};
     ghost use Rattle.serde_amqp.specs.Derive.{value_or};
-    ghost use Rattle.amqp_links.specs.declared.terminus.TerminusDurability.TheVariants as terminus_durability;
-    ghost use Rattle.amqp_links.specs.declared.terminus.TerminusExpiryPolicy.TheVariants as terminus_expiry_policy;
+    ghost use Rattle.amqp_types.specs.declared.terminus.TerminusDurability.TheVariants as terminus_durability;
+    ghost use Rattle.amqp_types.specs.declared.terminus.TerminusExpiryPolicy.TheVariants as terminus_expiry_policy;
 
     /// Returns `durable`, or `TerminusDurability::None` if it is absent.
     pub fn durable_or_default(&self) -> TerminusDurability
@@ -73,27 +64,23 @@ use serde_amqp::derive::{
     SerializeCompounds, Serializer, build, fields, laws, named, read_composite_type,
 };
 
-impl Serialize for Source {
+impl Serialize for Target {
     ghost use Rattle.std.specs.Prelude.{[], ◌∷◌};
     ghost use Rattle.serde_amqp.specs.Derive.{code, short_composite, optional_value, of_bool, of_u32};
 
-    ghost tree = { λ x. short_composite (code 0x28) (
+    ghost tree = { λ x. short_composite (code 0x29) (
         optional_value ⟦<Address as Serialize>⟧.tree x.address
         ∷ optional_value ⟦<TerminusDurability as Serialize>⟧.tree x.durable
         ∷ optional_value ⟦<TerminusExpiryPolicy as Serialize>⟧.tree x.expiry_policy
         ∷ optional_value of_u32 x.timeout
         ∷ optional_value of_bool x.dynamic
         ∷ optional_value ⟦<OrderedMap<Symbol, Value> as Serialize>⟧.tree x.dynamic_node_properties
-        ∷ optional_value ⟦<DistributionMode as Serialize>⟧.tree x.distribution_mode
-        ∷ optional_value ⟦<OrderedMap<Symbol, Value> as Serialize>⟧.tree x.filter
-        ∷ optional_value ⟦<Outcome as Serialize>⟧.tree x.default_outcome
-        ∷ optional_value ⟦<Multiple<Symbol> as Serialize>⟧.tree x.outcomes
         ∷ optional_value ⟦<Multiple<Symbol> as Serialize>⟧.tree x.capabilities
         ∷ []) };
 
     fn serialize<S: Serializer>(&self, serializer: &mut S) -> Result<S::Ok, S::Error> {
         serializer.serialize_described(
-            &0x28u64,
+            &0x29u64,
             &ListOf(fields! {
                 "address"?: &self.address,
                 "durable"?: &self.durable,
@@ -101,18 +88,14 @@ impl Serialize for Source {
                 "timeout"?: &self.timeout,
                 "dynamic"?: &self.dynamic,
                 "dynamic-node-properties"?: &self.dynamic_node_properties,
-                "distribution-mode"?: &self.distribution_mode,
-                "filter"?: &self.filter,
-                "default-outcome"?: &self.default_outcome,
-                "outcomes"?: &self.outcomes,
                 "capabilities"?: &self.capabilities,
             }),
         )
     }
 }
 
-/// The fields of [`Source`], as they are read.
-type SourceFields = Optional<
+/// The fields of [`Target`], as they are read.
+type TargetFields = Optional<
     Address,
     Optional<
         TerminusDurability,
@@ -120,37 +103,22 @@ type SourceFields = Optional<
             TerminusExpiryPolicy,
             Optional<
                 u32,
-                Optional<
-                    bool,
-                    Optional<
-                        OrderedMap<Symbol, Value>,
-                        Optional<
-                            DistributionMode,
-                            Optional<
-                                OrderedMap<Symbol, Value>,
-                                Optional<
-                                    Outcome,
-                                    Optional<Multiple<Symbol>, Optional<Multiple<Symbol>, ()>>,
-                                >,
-                            >,
-                        >,
-                    >,
-                >,
+                Optional<bool, Optional<OrderedMap<Symbol, Value>, Optional<Multiple<Symbol>, ()>>>,
             >,
         >,
     >,
 >;
 
-impl Record for Source {
+impl Record for Target {
     ghost use Rattle.serde_amqp.specs.Derive.{◌▸◌};
 
-    type Values = <SourceFields as FieldSeeds>::Values;
+    type Values = <TargetFields as FieldSeeds>::Values;
 
-    ghost parts = { λ x. x.address ▸ x.durable ▸ x.expiry_policy ▸ x.timeout ▸ x.dynamic ▸ x.dynamic_node_properties ▸ x.distribution_mode ▸ x.filter ▸ x.default_outcome ▸ x.outcomes ▸ x.capabilities ▸ tt };
+    ghost parts = { λ x. x.address ▸ x.durable ▸ x.expiry_policy ▸ x.timeout ▸ x.dynamic ▸ x.dynamic_node_properties ▸ x.capabilities ▸ tt };
 }
 
-impl FromParts for Source {
-    fn from_parts(parts: <SourceFields as FieldSeeds>::Values) -> Source {
+impl FromParts for Target {
+    fn from_parts(parts: <TargetFields as FieldSeeds>::Values) -> Target {
         let FieldValues {
             value: address,
             rest,
@@ -176,48 +144,28 @@ impl FromParts for Source {
             rest,
         } = rest;
         let FieldValues {
-            value: distribution_mode,
-            rest,
-        } = rest;
-        let FieldValues {
-            value: filter,
-            rest,
-        } = rest;
-        let FieldValues {
-            value: default_outcome,
-            rest,
-        } = rest;
-        let FieldValues {
-            value: outcomes,
-            rest,
-        } = rest;
-        let FieldValues {
             value: capabilities,
             rest: (),
         } = rest;
-        Source {
+        Target {
             address,
             durable,
             expiry_policy,
             timeout,
             dynamic,
             dynamic_node_properties,
-            distribution_mode,
-            filter,
-            default_outcome,
-            outcomes,
             capabilities,
         }
     }
 }
 
-impl Composite for Source {
+impl Composite for Target {
     ghost use Rattle.std.specs.Prelude.{codes};
     ghost use Rattle.serde_amqp.specs.Derive.{OnFields, ReadsOptional, NoMoreFields};
 
-    ghost descriptor_code = { 0x28 };
+    ghost descriptor_code = { 0x29 };
 
-    ghost descriptor_name = { codes "amqp:source:list" };
+    ghost descriptor_name = { codes "amqp:target:list" };
 
     ghost reads = { λ t x. OnFields (
         ReadsOptional (codes "address") ⟦<Address as Deserialize>⟧.reads x.address (
@@ -226,69 +174,65 @@ impl Composite for Source {
         ReadsOptional (codes "timeout") ⟦<u32 as Deserialize>⟧.reads x.timeout (
         ReadsOptional (codes "dynamic") ⟦<bool as Deserialize>⟧.reads x.dynamic (
         ReadsOptional (codes "dynamic-node-properties") ⟦<OrderedMap<Symbol, Value> as Deserialize>⟧.reads x.dynamic_node_properties (
-        ReadsOptional (codes "distribution-mode") ⟦<DistributionMode as Deserialize>⟧.reads x.distribution_mode (
-        ReadsOptional (codes "filter") ⟦<OrderedMap<Symbol, Value> as Deserialize>⟧.reads x.filter (
-        ReadsOptional (codes "default-outcome") ⟦<Outcome as Deserialize>⟧.reads x.default_outcome (
-        ReadsOptional (codes "outcomes") ⟦<Multiple<Symbol> as Deserialize>⟧.reads x.outcomes (
         ReadsOptional (codes "capabilities") ⟦<Multiple<Symbol> as Deserialize>⟧.reads x.capabilities
-        NoMoreFields))))))))))) t };
+        NoMoreFields))))))) t };
 
-    ghost image = { λ x. ⟦<ListSeed<SourceFields> as DeserializeSeed>⟧.short (⟦<Source as Record>⟧.parts x) };
+    ghost image = { λ x. ⟦<ListSeed<TargetFields> as DeserializeSeed>⟧.short (⟦<Target as Record>⟧.parts x) };
 
-    ghost restorable = { λ x. ⟦<ListSeed<SourceFields> as DeserializeSeed>⟧.restorable (⟦<Source as Record>⟧.parts x) };
+    ghost restorable = { λ x. ⟦<ListSeed<TargetFields> as DeserializeSeed>⟧.restorable (⟦<Target as Record>⟧.parts x) };
 
-    ghost same = { λ x y. ⟦<ListSeed<SourceFields> as DeserializeSeed>⟧.same (⟦<Source as Record>⟧.parts x) (⟦<Source as Record>⟧.parts y) };
+    ghost same = { λ x y. ⟦<ListSeed<TargetFields> as DeserializeSeed>⟧.same (⟦<Target as Record>⟧.parts x) (⟦<Target as Record>⟧.parts y) };
 
     fn code() -> u64 {
-        0x28
+        0x29
     }
 
     fn name() -> &'static str {
-        "amqp:source:list"
+        "amqp:target:list"
     }
 
-    fn read_body<D: Deserializer>(alloc: Global, deserializer: D) -> Result<Source, D::Error> {
-        build::<Source, D, _>(
+    fn read_body<D: Deserializer>(alloc: Global, deserializer: D) -> Result<Target, D::Error> {
+        build::<Target, D, _>(
             alloc,
             deserializer,
             ListSeed(
-                named! { "address"?, "durable"?, "expiry-policy"?, "timeout"?, "dynamic"?, "dynamic-node-properties"?, "distribution-mode"?, "filter"?, "default-outcome"?, "outcomes"?, "capabilities"? },
+                named! { "address"?, "durable"?, "expiry-policy"?, "timeout"?, "dynamic"?, "dynamic-node-properties"?, "capabilities"? },
             ),
         )
     }
 }
 
-impl Deserialize for Source {
+impl Deserialize for Target {
     ghost use Rattle.std.specs.Prelude.{codes};
     ghost use Rattle.serde_amqp.specs.Derive.{code, described, OnComposite};
 
-    ghost reads = { λ t x. OnComposite 0x28 (codes "amqp:source:list") (λ u. ⟦<Source as Composite>⟧.reads u x) t };
+    ghost reads = { λ t x. OnComposite 0x29 (codes "amqp:target:list") (λ u. ⟦<Target as Composite>⟧.reads u x) t };
 
-    ghost image = { λ x. described (code 0x28) (⟦<Source as Composite>⟧.image x) };
+    ghost image = { λ x. described (code 0x29) (⟦<Target as Composite>⟧.image x) };
 
-    ghost restorable = { ⟦<Source as Composite>⟧.restorable };
+    ghost restorable = { ⟦<Target as Composite>⟧.restorable };
 
-    ghost same = { ⟦<Source as Composite>⟧.same };
+    ghost same = { ⟦<Target as Composite>⟧.same };
 
-    fn deserialize<D: Deserializer>(alloc: Global, deserializer: D) -> Result<Source, D::Error> {
-        read_composite_type::<Source, D>(alloc, deserializer)
+    fn deserialize<D: Deserializer>(alloc: Global, deserializer: D) -> Result<Target, D::Error> {
+        read_composite_type::<Target, D>(alloc, deserializer)
     }
 }
 
-impl RoundTripComposite for Source {
+impl RoundTripComposite for Target {
     fn composite_law() {
-        laws::short_fields_return::<Source, SourceFields>();
+        laws::short_fields_return::<Target, TargetFields>();
         laws::described_return();
     }
 }
 
-impl RoundTrip for Source {
+impl RoundTrip for Target {
     fn law() {
-        <Source as RoundTripComposite>::composite_law();
+        <Target as RoundTripComposite>::composite_law();
     }
 }
 
-impl Source {
+impl Target {
     ghost use Rattle.std.specs.Prelude.{◌≡◌, false};
     ghost use Rattle.serde_amqp.specs.Derive.{value_or};
 

@@ -2,7 +2,7 @@
 
 use crate::delivery::{Accepted, Modified, Received, Rejected, Released};
 use crate::transactions::Declared;
-use amqp_messaging::Unknown;
+use crate::unknown::Unknown;
 use serde_amqp::primitives::ByteBuf;
 
 /// The outcome of a delivery (AMQP 1.0 part 3, section 3.4).
@@ -74,7 +74,7 @@ use serde_amqp::derive::{
 
 impl Record for Outcome {
     ghost use Rattle.serde_amqp.specs.Derive.{This, Other};
-    ghost use Rattle.amqp_delivery.specs.declared.states.Outcome.TheVariants as variant;
+    ghost use Rattle.amqp_messaging.specs.declared.states.Outcome.TheVariants as variant;
 
     type Values = Either<
         Accepted,
@@ -253,7 +253,7 @@ impl RoundTrip for TransactionalState {
 
 impl Record for DeliveryState {
     ghost use Rattle.serde_amqp.specs.Derive.{This, Other};
-    ghost use Rattle.amqp_delivery.specs.declared.states.DeliveryState.TheVariants as variant;
+    ghost use Rattle.amqp_messaging.specs.declared.states.DeliveryState.TheVariants as variant;
 
     type Values = Either<
         Received,
