@@ -59,6 +59,13 @@ described_by-last : (ds : List Descriptor) (d : Descriptor) (t : Option Tree) �
 described_by-last [] d t = refl
 described_by-last (e ∷ ds) d t = ap (as_described (Some e)) (described_by-last ds d t)
 
+leaves-prefix : (others own : List Descriptor) (d : Descriptor) (r : Result Value Error) (s : Serializer) → Leaves others (own ++ (d ∷ [])) r s → Leaves others own r s
+leaves-prefix others own d (Ok v) s k =
+    let sum : length (others ++ (own ++ (d ∷ []))) ≡ length (others ++ own) + 1 = ap length (sym (append_assoc others own (d ∷ []))) ∙ length-append (others ++ own) (d ∷ []) in
+    let le = k.1 in
+    (k.0, omega arith)
+leaves-prefix others own d (Err e) s k = (k.0, ((d ∷ []) ++ k.1.0, k.1.1 ∙ append_assoc own (d ∷ []) k.1.0))
+
 -- A result that is permitted after one more descriptor is permitted for the described value before
 -- it.
 pub permitted_before : (start : Serializer) (inner : PendingMarker) (x : Descriptor) (d t : Option Tree) (r : Result Value Error) (after : Serializer) → descriptor_of d ≡ Some x

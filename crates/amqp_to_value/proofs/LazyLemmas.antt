@@ -148,3 +148,19 @@ unfolding tree_of_parts
 part_lacks u k ps t rest h =
     subst (λ o. Lacks (meant u (as_kind k o))) (sym (all_trees-append ps (Some t ∷ rest)))
     (meant_lacks u _ (joined_lacks k (all_trees ps) (all_trees rest) t h))
+
+-- Bytes that spell no value make no readable lazy tree.
+frame_lacks : (b : Bool) (bs : List ℕ) → ((t : Tree) → Spells 256 bs t → ⊥) → Lacks (if b then Some (lazy bs) else None)
+frame_lacks true bs h = h
+frame_lacks false bs h = tt
+
+-- The error for bytes that were not decoded is permitted.
+pub lazy_refused : (bs : List ℕ) (e r : Error) → (e ≡ error.OutOfMemory → r ≡ error.OutOfMemory) → ((e ≡ error.OutOfMemory → ⊥) → IsFault r)
+    → ((e ≡ error.OutOfMemory → ⊥) → (t : Tree) → Spells 256 bs t → ⊥) → refuses r (of_frame bs)
+lazy_refused bs error.OutOfMemory r memory fault none = subst (λ x. refuses x (of_frame bs)) (sym (memory refl)) tt
+lazy_refused bs error.InvalidValue r memory fault none = let no : error.InvalidValue ≡ error.OutOfMemory → ⊥ = λ e. cc in faulted r (of_frame bs) (fault no) (frame_lacks (is_frame bs) bs (none no))
+lazy_refused bs error.InvalidFormatCode r memory fault none = let no : error.InvalidFormatCode ≡ error.OutOfMemory → ⊥ = λ e. cc in faulted r (of_frame bs) (fault no) (frame_lacks (is_frame bs) bs (none no))
+lazy_refused bs error.UnexpectedEof r memory fault none = let no : error.UnexpectedEof ≡ error.OutOfMemory → ⊥ = λ e. cc in faulted r (of_frame bs) (fault no) (frame_lacks (is_frame bs) bs (none no))
+lazy_refused bs error.TooLong r memory fault none = let no : error.TooLong ≡ error.OutOfMemory → ⊥ = λ e. cc in faulted r (of_frame bs) (fault no) (frame_lacks (is_frame bs) bs (none no))
+lazy_refused bs error.Io r memory fault none = let no : error.Io ≡ error.OutOfMemory → ⊥ = λ e. cc in faulted r (of_frame bs) (fault no) (frame_lacks (is_frame bs) bs (none no))
+lazy_refused bs (error.Message w) r memory fault none = let no : error.Message w ≡ error.OutOfMemory → ⊥ = λ e. cc in faulted r (of_frame bs) (fault no) (frame_lacks (is_frame bs) bs (none no))

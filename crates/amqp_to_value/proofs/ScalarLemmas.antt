@@ -31,6 +31,10 @@ abbrev IsNoBinary : Scalar → Type 0
 IsNoBinary (binary bs) = ⊥
 IsNoBinary s = Unit {0}
 
+sized_is : (b : Bool) (s : Scalar) → IsScalar (if b then Some (scalar s) else None)
+sized_is true s = tt
+sized_is false s = tt
+
 marked_is : (m : Marker) (s : Scalar) → IsNoBinary s → IsScalar (marked_scalar m s)
 marked_is marker.Symbol (string bs) h = tt
 marked_is marker.Timestamp (long z) h = tt

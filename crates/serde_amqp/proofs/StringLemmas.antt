@@ -64,6 +64,19 @@ size-refused-at items (Message words) h = absurd h
 pub size-refused : (items : List (Bor (List ℕ))) (e : Error) → IsSizeOf (vector_tree items) (Err e) → RefusesReport items e
 size-refused items e h = size-refused-at items e (subst (λ t. IsSizeOf t (Err e)) (strings-whole items) h)
 
+bytes-refused-at : (items : List (Bor (List ℕ))) (e : Error) → AreBytesOf (Some (strings_tree (texts items))) (Err e) → RefusesReport items e
+bytes-refused-at items TooLong h = (inl refl, λ k. ap (λ b. b && (uniform_arrays (strings_tree (texts items)) && placed (strings_tree (texts items)))) h)
+bytes-refused-at items InvalidValue h = absurd (cc (strings-fair (texts items)))
+bytes-refused-at items OutOfMemory h = (inr refl, λ k. absurd (cc))
+bytes-refused-at items InvalidFormatCode h = absurd h
+bytes-refused-at items UnexpectedEof h = absurd h
+bytes-refused-at items Io h = absurd h
+bytes-refused-at items (Message words) h = absurd h
+
+-- An error of the encoding is one of these errors.
+pub bytes-refused : (items : List (Bor (List ℕ))) (e : Error) → AreBytesOf (vector_tree items) (Err e) → RefusesReport items e
+bytes-refused items e h = bytes-refused-at items e (subst (λ t. AreBytesOf t (Err e)) (strings-whole items) h)
+
 each-not_lazy : (lines : List (List ℕ)) → has_lazy_each (string_trees lines) ≡ false
 each-not_lazy [] = refl
 each-not_lazy (line ∷ lines) = each-not_lazy lines
