@@ -1,0 +1,17 @@
+use Rattle.std.proofs.Common.{rules, ◌≡◌, [], length, arith}
+use Rattle.std.proofs.lemmas.Grind.{common_steps}
+use Rattle.amqp_decode.proofs.Whole.{nil-from_length}
+use Rattle.amqp_read.specs.EncodedTrees.{count_of, form_of}
+use Rattle.amqp_read.proofs.EncodedCounts.{closed_counts}
+use Rattle.amqp_read.proofs.EncodedLemmas.{closed}
+use Rattle.amqp_read.proofs.encoded.EncodedSource.close.Goals as goal
+
+pub returns-then-is_empty-clause-ok : goal.returns-then-is_empty-clause-ok
+returns-then-is_empty-clause-ok c =
+    let es = c.args.elements in
+    let done : es.left ≡ 0 = search rules in
+    let none : length es.bytes.now ≡ 0 = grind (arith, common_steps) in (
+      [],
+      closed (form_of es.depth es.constructor) es.left es.bytes.now done (nil-from_length es.bytes.now none),
+      closed_counts es.limited (count_of es.depth es.constructor) (form_of es.depth es.constructor) es.left es.bytes.now done,
+    )
