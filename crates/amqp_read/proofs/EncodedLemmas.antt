@@ -6,7 +6,7 @@ use Rattle.std.specs.Prelude.{not, ◌&&◌}
 use Rattle.amqp_data.specs.Pairs.{insert_pair}
 use Rattle.amqp_ser.specs.Same.{same_tree}
 use Rattle.amqp_ser.specs.Tree as tree
-use Rattle.amqp_ser.specs.Tree.{Tree, Scalar, Descriptor, Pairs, scalar, null, string, list, array, map, described, trees_of, no_pairs}
+use Rattle.amqp_ser.specs.Tree.{Tree, Scalar, Descriptor, Pairs, scalar, null, string, list, array, map, described, trees_of}
 use Rattle.amqp_value.specs.Converts.{inserted_in_order}
 use Rattle.amqp_value.specs.Image.{insert_tree}
 use Rattle.amqp_value.specs.TreeOf.{pairs_of}
@@ -41,7 +41,7 @@ list_found depth d n bytes rest body ts deep is all =
     let inner : gather (parse depth) n body [] ≡ Some (ts, []) = ap (λ z. gather (parse z) n body []) deep ∙ all in
     found (parse (suc depth) bytes) (list (trees_of ts)) rest (parse_frame depth bytes ∙ is (parse depth) (parse_content depth) ts inner)
 
-pub form_of_items : (d c : ℕ) → (c ≡ 0 → ⊥) → form_of d c ≡ item_of d c
+form_of_items : (d c : ℕ) → (c ≡ 0 → ⊥) → form_of d c ≡ item_of d c
 form_of_items d c some = rw (not-zero c some) refl
 
 pub array_found : (depth d n c : ℕ) (bytes rest items : List ℕ) (ts : List Tree) → depth ≡ suc d → (c ≡ 0 → ⊥) → IsArrayOf bytes rest n c items
@@ -58,7 +58,7 @@ inserted_rest f zero s ds ps r e =
     let same = some_same {A = List (Tree × Tree) × List ℕ} ([], s) (ps, r) e in
     let none : ◌≡◌ {A = List (Tree × Tree)} [] ps = ap (λ z. z.0) same in
     let rest : s ≡ r = ap (λ z. z.1) same in
-    subst (λ z. Some (pairs_of ds, s) ≡ Some (pairs_of (fold (λ done e. insert_pair same_tree done e.0 e.1) ds z), r)) none (ap (λ z. Some (pairs_of ds, z)) rest)
+    subst (λ z. ◌≡◌ {A = Option (Pairs × List ℕ)} (Some (pairs_of ds, s)) (Some (pairs_of (fold (λ done e. insert_pair same_tree done e.0 e.1) ds z), r))) none (ap (λ z. Some (pairs_of ds, z)) rest)
 inserted_rest f (suc n) s ds ps r e =
     let (k, key, a) = both (f s) (λ k. and_then (f k.1) (λ v. and_then (collect f n v.1) (λ q. Some ((k.0, v.0) ∷ q.0, q.1)))) (ps, r) e in
     let (v, value, b) = both (f k.1) (λ v. and_then (collect f n v.1) (λ q. Some ((k.0, v.0) ∷ q.0, q.1))) (ps, r) a in
@@ -74,18 +74,14 @@ inserted_rest f (suc n) s ds ps r e =
     ∙ ap (λ z. Some (pairs_of (fold (λ done e. insert_pair same_tree done e.0 e.1) ds z), q.1)) all
     ∙ ap (λ z. Some (pairs_of (fold (λ done e. insert_pair same_tree done e.0 e.1) ds ps), z)) rest
 
-pub all_inserted : (depth d n : ℕ) (body : List ℕ) (ps : List (Tree × Tree)) → depth ≡ suc d → collect (parse (suc d)) n body ≡ Some (ps, []) → AreApart (keys_of ps)
-    → insert (parse depth) n body no_pairs ≡ Some (pairs_of ps, [])
-all_inserted depth d n body ps deep all apart =
-    let inner : collect (parse depth) n body ≡ Some (ps, []) = ap (λ z. collect (parse z) n body) deep ∙ all in
-    let unchanged : inserted_in_order same_tree ps ≡ ps = distinct_inserted same_tree ps (apart_entries ps apart) in
-    inserted_rest (parse depth) n body [] ps [] inner ∙ ap (λ es. Some (pairs_of es, [])) unchanged
-
 pub map_found : (depth d n : ℕ) (bytes rest body : List ℕ) (ps : List (Tree × Tree)) → depth ≡ suc d → IsMapOf bytes rest n body
     → collect (parse (suc d)) n body ≡ Some (ps, []) → AreApart (keys_of ps)
     → (tree_in (parse (suc depth) bytes) ≡ map (pairs_of ps)) × (parse (suc depth) bytes ≡ Some (tree_in (parse (suc depth) bytes), rest))
 map_found depth d n bytes rest body ps deep is all apart =
-    found (parse (suc depth) bytes) (map (pairs_of ps)) rest (parse_frame depth bytes ∙ is (parse depth) (parse_content depth) (pairs_of ps) (all_inserted depth d n body ps deep all apart))
+    let inner : collect (parse depth) n body ≡ Some (ps, []) = ap (λ z. collect (parse z) n body) deep ∙ all in
+    let unchanged : inserted_in_order same_tree ps ≡ ps = distinct_inserted same_tree ps (apart_entries ps apart) in
+    let whole = inserted_rest (parse depth) n body [] ps [] inner ∙ ap (λ es. Some (pairs_of es, [])) unchanged in
+    found (parse (suc depth) bytes) (map (pairs_of ps)) rest (parse_frame depth bytes ∙ is (parse depth) (parse_content depth) (pairs_of ps) whole)
 
 pub described_found : (depth d c : ℕ) (bytes s r : List ℕ) (e : Descriptor) → depth ≡ suc d → descriptor_at bytes ≡ Some (e, c ∷ s)
     → parse (suc d) (c ∷ s) ≡ Some (tree_in (parse (suc d) (c ∷ s)), r)

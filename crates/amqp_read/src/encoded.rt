@@ -6,7 +6,7 @@ ghost use Rattle.amqp_decode.specs.Parsed.{parse};
 ghost use Rattle.amqp_read.specs.Maps.{AreApart};
 
 use crate::fault::Fault;
-use crate::parts::{first_descriptor, is_refused, list_scalars, split_name};
+use crate::parts::{first_descriptor, list_scalars, split_name};
 use crate::scalar::Scalar;
 use crate::source::Source;
 use amqp_data::Descriptor;
@@ -25,9 +25,6 @@ pub struct Encoded<'a> {
     pub bytes: &'a [u8],
     /// The number of levels inside.
     pub depth: u16,
-    /// Whether array elements without bytes are refused: then arrays, and untyped values that are
-    /// not scalars, are not read in one pass.
-    pub limited: bool,
 }
 
 /// What is left of a list, which has no constructor, or of an array.
@@ -36,7 +33,6 @@ pub struct EncodedElements<'a> {
     left: u32,
     constructor: u8,
     depth: u16,
-    limited: bool,
     bytes: &'a [u8],
 }
 
@@ -45,12 +41,11 @@ pub struct EncodedElements<'a> {
 pub struct EncodedEntries<'a> {
     left: u32,
     depth: u16,
-    limited: bool,
     bytes: &'a [u8],
 }
 
 impl<'a> Source for Encoded<'a> {
-    ghost use Rattle.amqp_read.specs.EncodedTrees.{encoded_tree, IsFirst, HoldsElements, HoldsEntries, HoldsValue, HasOnly};
+    ghost use Rattle.amqp_read.specs.EncodedTrees.{encoded_tree, HoldsElements, HoldsEntries, HasOnly};
 
     type Rest = &'a [u8];
 
@@ -62,7 +57,7 @@ impl<'a> Source for Encoded<'a> {
 
     ghost value = { encoded_tree };
 
-    ghost left = { λ s r. IsFirst s r.now };
+    ghost left = { λ s r. parse (suc s.depth) (s.code ∷ s.bytes.now) ≡ Some (encoded_tree s, r.now) };
 
     ghost is_whole = { λ _. ⊥ };
 
@@ -80,7 +75,8 @@ impl<'a> Source for Encoded<'a> {
 
     ghost waits_pair = { λ es m ps. HoldsEntries es m.now ps };
 
-    ghost waits_value = { λ es _ m t ps. HoldsValue es m.now t ps };
+    ghost waits_value = { λ es _ m t ps.
+        (mid : List ℕ) × (parse (suc es.depth) m.now ≡ Some (t, mid)) × HoldsEntries es mid ps };
 
     ghost pairs = { λ _. [] };
 
@@ -124,14 +120,10 @@ impl<'a> Source for Encoded<'a> {
 
     fn untyped(self, alloc: Global) -> Result<(Value, &'a [u8]), Fault> {
         let mut rest = self.bytes;
-        let value = match read_value_after_code(alloc, self.code, &mut rest, self.depth) {
-            Ok(value) => value,
-            Err(_) => return Err(Fault::gave_up(self.bytes.len())),
-        };
-        if is_refused(self.limited, &value) {
-            return Err(Fault::gave_up(self.bytes.len()));
+        match read_value_after_code(alloc, self.code, &mut rest, self.depth) {
+            Ok(value) => Ok((value, rest)),
+            Err(_) => Err(Fault::gave_up(self.bytes.len())),
         }
-        Ok((value, rest))
     }
 
     #[inline(always)]
@@ -146,7 +138,6 @@ impl<'a> Source for Encoded<'a> {
                     left,
                     constructor: 0,
                     depth: inside,
-                    limited: self.limited,
                     bytes,
                 },
                 after,
@@ -157,9 +148,6 @@ impl<'a> Source for Encoded<'a> {
 
     #[inline(always)]
     fn array(self) -> Result<(EncodedElements<'a>, &'a [u8]), Fault> {
-        if self.limited {
-            return Err(Fault::gave_up(self.bytes.len()));
-        }
         let inside = match below(self.depth) {
             Ok(inside) => inside,
             Err(_) => return Err(Fault::gave_up(self.bytes.len())),
@@ -174,7 +162,6 @@ impl<'a> Source for Encoded<'a> {
                         left,
                         constructor,
                         depth: inside,
-                        limited: self.limited,
                         bytes,
                     },
                     after,
@@ -195,7 +182,6 @@ impl<'a> Source for Encoded<'a> {
                 EncodedEntries {
                     left,
                     depth: inside,
-                    limited: self.limited,
                     bytes,
                 },
                 after,
@@ -224,7 +210,6 @@ impl<'a> Source for Encoded<'a> {
                     code: *code,
                     bytes,
                     depth: inside,
-                    limited: self.limited,
                 },
             )),
             None => Err(Fault::gave_up(0)),
@@ -242,7 +227,6 @@ impl<'a> Source for Encoded<'a> {
                 code: elements.constructor,
                 bytes: elements.bytes,
                 depth: elements.depth,
-                limited: elements.limited,
             });
         }
         match elements.bytes.split_first() {
@@ -252,7 +236,6 @@ impl<'a> Source for Encoded<'a> {
                     code: *code,
                     bytes,
                     depth: elements.depth,
-                    limited: elements.limited,
                 })
             }
             None => None,
@@ -310,7 +293,6 @@ impl<'a> Source for Encoded<'a> {
                         code: *code,
                         bytes,
                         depth: entries.depth,
-                        limited: entries.limited,
                     },
                     (),
                 ))
@@ -330,7 +312,6 @@ impl<'a> Source for Encoded<'a> {
                 code: *code,
                 bytes,
                 depth: entries.depth,
-                limited: entries.limited,
             }),
             None => Err(Fault::gave_up(0)),
         }
@@ -350,7 +331,6 @@ impl<'a> Source for Encoded<'a> {
                     code,
                     bytes,
                     depth: entries.depth,
-                    limited: entries.limited,
                 })
             }
             None => None,

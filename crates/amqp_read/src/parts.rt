@@ -1,11 +1,9 @@
 //! Parts of encoded values.
 
-ghost use Rattle.std.specs.Prelude.{◌≡◌, ◌∷◌, ℕ, suc, IfOk, IfSome, Some, true, false};
+ghost use Rattle.std.specs.Prelude.{◌≡◌, ◌∷◌, ℕ, suc, IfOk, IfSome, Some};
 ghost use Rattle.amqp_ser.specs.Carried.{descriptor_content};
 ghost use Rattle.amqp_ser.specs.Tree.{scalar, string};
 ghost use Rattle.amqp_decode.specs.Parsed.{parse, descriptor_at};
-ghost use Rattle.amqp_value.specs.TreeOf.{tree_of};
-ghost use Rattle.amqp_read.specs.EncodedTrees.{is_compound};
 ghost use Rattle.amqp_read.specs.Encodings.{Fills};
 
 use crate::fault::Fault;
@@ -13,7 +11,6 @@ use crate::room::MOST_RESERVED;
 use crate::scalar::Scalar;
 use amqp_data::Descriptor;
 use amqp_decode::prefix::{GaveUp, split_byte, split_descriptor, split_string};
-use amqp_value::Value;
 use std::alloc::Global;
 
 /// Splits off the key of the first of `count` entries, if it is this name, and the code of its value.
@@ -53,24 +50,6 @@ pub(crate) fn first_descriptor(alloc: Global, bytes: &[u8]) -> Result<(Descripto
             None => Err(GaveUp),
         },
         _ => split_descriptor(alloc, bytes),
-    }
-}
-
-/// Whether the value may contain array elements without bytes, and these are refused.
-#[inline(always)]
-pub(crate) fn is_refused(limited: bool, value: &Value) -> bool
-    ensures { result ≡ false → limited ≡ true → is_compound (tree_of value.now) ≡ false }
-{
-    if limited { is_compound(value) } else { false }
-}
-
-// Whether the value is no scalar.
-fn is_compound(value: &Value) -> bool
-    ensures { result ≡ is_compound (tree_of value.now) }
-{
-    match value {
-        Value::List(_) | Value::Array(_) | Value::Map(_) | Value::Described(_) => true,
-        _ => false,
     }
 }
 

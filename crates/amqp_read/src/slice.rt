@@ -7,8 +7,6 @@ ghost use Rattle.amqp_value.specs.TreeOf.{tree_of};
 ghost use Rattle.amqp_decode.specs.Faults.{DecodeFails};
 ghost use Rattle.amqp_decode.specs.Parsed.{parse};
 ghost use Rattle.amqp_decode.specs.Spells.{Spells};
-ghost use Rattle.amqp_decode.specs.WithoutBytes.{elements_without_bytes};
-ghost use Rattle.amqp_read.specs.EncodedTrees.{HasNone};
 ghost use Rattle.amqp_read.specs.Results.{IsMemory, Reading};
 ghost use Rattle.amqp_read.specs.Spelled.{Answers, IsOfReading, ReadsSpelled};
 
@@ -60,29 +58,22 @@ pub fn from_slice<T: Deserialize>(alloc: Global, bytes: &[u8]) -> Result<T, Erro
         IfErr result (DecodeFails 256 bytes.now) }
     ensures kind { IfErr result (λ e. (t : Tree) → Spells 256 bytes.now t → IsOfReading e) }
 {
-    match read_bytes::<T>(alloc, bytes, DEPTH, false) {
+    match read_bytes::<T>(alloc, bytes, DEPTH) {
         Some(read) => Ok(read),
         None => read_by_value::<T>(alloc, bytes),
     }
 }
 
-/// Reads a `T` from exactly one encoded value, which has no array elements without bytes if `limited`.
-pub fn read_bytes<T: Deserialize>(
-    alloc: Global,
-    bytes: &[u8],
-    depth: u16,
-    limited: bool,
-) -> Option<T>
-    ensures some { IfSome result (λ x. (t : Tree) × (parse (suc depth) bytes.now ≡ Some (t, []))
+/// Reads a `T` from exactly one encoded value.
+pub fn read_bytes<T: Deserialize>(alloc: Global, bytes: &[u8], depth: u16) -> Option<T>
+    ensures { IfSome result (λ x. (t : Tree) × (parse (suc depth) bytes.now ≡ Some (t, []))
         × Reading T.reads T.image T.restorable T.same t x) }
-    ensures limited { IfSome result (λ _. HasNone limited (elements_without_bytes (suc depth) bytes.now)) }
 {
     let (code, payload) = bytes.split_first()?;
     let encoded = Encoded {
         code: *code,
         bytes: payload,
         depth,
-        limited,
     };
     match T::read(alloc, encoded) {
         Ok((read, rest)) => { if rest.is_empty() { Some(read) } else { None } }
