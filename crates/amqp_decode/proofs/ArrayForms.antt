@@ -1,5 +1,5 @@
 -- Arrays with their format codes.
-use Rattle.std.proofs.Common.{◌≡◌, ℕ, zero, suc, ◌-◌, Bool, true, false, IsTrue, List, [], ◌∷◌, ◌++◌, Option, Some, None, refl, sym, ap, ◌∙◌, subst, arith}
+use Rattle.std.proofs.Common.{◌≡◌, ℕ, zero, suc, ◌+◌, ◌-◌, ◌/◌, ◌==◌, Bool, true, false, IsTrue, List, [], ◌∷◌, ◌++◌, Option, Some, None, refl, sym, ap, ◌∙◌, subst, arith}
 use Rattle.std.specs.Int.{w64, from_be_bytes}
 use Rattle.amqp_data.specs.FormatCode.{code_of}
 use Rattle.amqp_data.specs.declared.format_code.EncodingCodes.{EncodingCodes}
@@ -14,9 +14,10 @@ use Rattle.amqp_decode.specs.Parsed.{FrameReader, ContentReader, cut, content_at
 use Rattle.amqp_decode.specs.declared.payload_shape.Count.{Count}
 use Rattle.amqp_decode.specs.declared.payload_shape.Count.TheVariants.{Absent, OneByte, FourBytes}
 use Rattle.amqp_decode.specs.declared.payload_shape.PayloadShape.TheVariants as shape
-use Rattle.amqp_decode.proofs.CodeLemmas.{primitive-found, primitive-nonzero}
+use Rattle.amqp_decode.proofs.CodeLemmas.{primitive-found, primitive-nonzero, primitive-says}
 use Rattle.amqp_decode.proofs.Finds.{payload-found}
-use Rattle.amqp_decode.specs.Prefix.{IsArrayOf, IsDescribedBy, item_of}
+use Rattle.amqp_decode.specs.Prefix.{HasCountOfPayloads, IsArrayOf, IsDescribedBy, item_of}
+use Rattle.amqp_decode.specs.WithoutBytes.{Counter, if_read, in_array, in_frame, in_payload, own_items, sum_of, elements_without_bytes, content_without_bytes}
 use Rattle.amqp_decode.proofs.Levels.{parse_frame, both, level_in}
 use Rattle.amqp_decode.proofs.Gathers.{gather_same}
 use Rattle.amqp_decode.proofs.Steps.{not-zero}
@@ -61,3 +62,54 @@ pub array_long : (s content rest : List ℕ) (n c : ℕ) (body payloads : List �
 unfolding category counted_in
 array_long s content rest n c body payloads found counted is many some =
     array_framed code.Array32 FourBytes s content rest n c payloads refl refl found (counted ∙ ap (λ z. Some (n, z)) is) many some
+
+-- The count of an array.
+item_counted : (d c : ℕ) (k : EncodingCodes) (s : List ℕ) → (c ≡ 0 → ⊥) → primitive_of c ≡ Some k → in_payload (content_without_bytes (suc d)) k s ≡ elements_without_bytes (suc d) (c ∷ s)
+unfolding elements_without_bytes content_without_bytes
+item_counted d c k s some is = rw (not-zero c some, is) refl
+
+sum_same : (a b : Counter) (f g : FrameReader) → ((s : List ℕ) → a s ≡ b s) → ((s : List ℕ) → f s ≡ g s) → (n : ℕ) (s : List ℕ) → sum_of a f n s ≡ sum_of b g n s
+sum_same a b f g counts reads zero s = refl
+sum_same a b f g counts reads (suc n) s =
+    ap (λ z. z + if_read (f s) (λ r. sum_of a f n r.1)) (counts s)
+    ∙ ap (λ o. b s + if_read o (λ r. sum_of a f n r.1)) (reads s)
+    ∙ after (g s)
+  where
+    after : (o : Option (Tree × List ℕ)) → b s + if_read o (λ r. sum_of a f n r.1) ≡ b s + if_read o (λ r. sum_of b g n r.1)
+    after None = refl
+    after (Some r) = ap (λ z. b s + z) (sum_same a b f g counts reads n r.1)
+
+no_own : (k : EncodingCodes) (c n : ℕ) → code_of k ≡ c → (c / 16 == 4) ≡ false → own_items k n ≡ 0
+no_own k c n is bytes =
+    let test : (code_of k / 16 == 4) ≡ false = ap (λ z. z / 16 == 4) is ∙ bytes in
+    rw test refl
+
+pub count_at : (d : ℕ) (s : List ℕ) → elements_without_bytes (suc d) s ≡ in_frame (elements_without_bytes d) (parse d) (content_without_bytes d) (parse_content d) s
+unfolding elements_without_bytes content_without_bytes
+count_at d s = refl
+
+array_counted : (code : EncodingCodes) (k : Count) (s content rest : List ℕ) (n c : ℕ) (payloads : List ℕ) → IsTrue (is_primitive code)
+    → shape_of_code code ≡ shape.Array k → content_at (category (code_of code)) s ≡ Some (content, rest) → counted_in k content ≡ Some (n, c ∷ payloads)
+    → (n ≡ 0 → ⊥) → (c ≡ 0 → ⊥) → (c / 16 == 4) ≡ false → HasCountOfPayloads (code_of code ∷ s) n c payloads
+array_counted code k s content rest n c payloads ok is found counted many some bytes depth ts e =
+    let at = first_code depth c n payloads ts some many e in
+    let inside : in_frame (elements_without_bytes (suc depth)) (parse (suc depth)) (content_without_bytes (suc depth)) (parse_content (suc depth)) (code_of code ∷ s)
+    ≡ own_items at.0 n + sum_of (in_payload (content_without_bytes (suc depth)) at.0) (payload_in (parse_content (suc depth)) at.0) n payloads =
+    rw (primitive-nonzero code ok, primitive-found code ok, found, is, counted, at.1) refl in
+    count_at (suc depth) (code_of code ∷ s)
+    ∙ inside
+    ∙ ap (λ z. z + sum_of (in_payload (content_without_bytes (suc depth)) at.0) (payload_in (parse_content (suc depth)) at.0) n payloads) (no_own at.0 c n (primitive-says c at.0 at.1).0 bytes)
+    ∙ sum_same (in_payload (content_without_bytes (suc depth)) at.0) (λ z. elements_without_bytes (suc depth) (c ∷ z)) (payload_in (parse_content (suc depth)) at.0) (item_of depth c)
+    (λ z. item_counted depth c at.0 z some at.1) (λ z. sym (item_payload depth c at.0 z some at.1)) n payloads
+
+pub array_count_short : (s content rest : List ℕ) (n c : ℕ) (body payloads : List ℕ) → sized_at false s ≡ Some (content, rest) → number_at false content ≡ Some (n, body)
+    → body ≡ c ∷ payloads → (n ≡ 0 → ⊥) → (c ≡ 0 → ⊥) → (c / 16 == 4) ≡ false → HasCountOfPayloads (224 ∷ s) n c payloads
+unfolding category counted_in
+array_count_short s content rest n c body payloads found counted is many some bytes =
+    array_counted code.Array8 OneByte s content rest n c payloads refl refl found (counted ∙ ap (λ z. Some (n, z)) is) many some bytes
+
+pub array_count_long : (s content rest : List ℕ) (n c : ℕ) (body payloads : List ℕ) → sized_at true s ≡ Some (content, rest) → number_at true content ≡ Some (n, body)
+    → body ≡ c ∷ payloads → (n ≡ 0 → ⊥) → (c ≡ 0 → ⊥) → (c / 16 == 4) ≡ false → HasCountOfPayloads (240 ∷ s) n c payloads
+unfolding category counted_in
+array_count_long s content rest n c body payloads found counted is many some bytes =
+    array_counted code.Array32 FourBytes s content rest n c payloads refl refl found (counted ∙ ap (λ z. Some (n, z)) is) many some bytes

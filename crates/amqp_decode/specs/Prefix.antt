@@ -1,7 +1,8 @@
 -- What the first encoded value of bytes is, at any depth (AMQP 1.0 part 1, sections 1.2 and 1.6).
-use Rattle.std.specs.Prelude.{◌≡◌, ℕ, suc, List, [], ◌∷◌, Some}
+use Rattle.std.specs.Prelude.{◌≡◌, ℕ, suc, ◌*◌, List, [], ◌∷◌, Some}
 use Rattle.amqp_ser.specs.Tree.{Scalar, Descriptor, Tree, Pairs, trees_of, no_pairs, scalar, list, map, array, described}
 use Rattle.amqp_decode.specs.Parsed.{FrameReader, ContentReader, gather, insert, frame_in, parse}
+use Rattle.amqp_decode.specs.WithoutBytes.{Counter, ContentCounter, elements_without_bytes, in_frame, sum_of}
 
 -- The bytes start with this scalar.
 abbrev pub IsScalar : List ℕ → List ℕ → Scalar → Type 0
@@ -31,3 +32,14 @@ IsArrayOf bytes rest count code payloads = (depth : ℕ) (ts : List Tree)
 abbrev pub IsDescribedBy : Descriptor → List ℕ → List ℕ → Type 0
 IsDescribedBy d bytes after = (f : FrameReader) (h : ContentReader) (t : Tree) (rest : List ℕ)
     → f after ≡ Some (t, rest) → frame_in f h bytes ≡ Some (described d t, rest)
+
+-- The array elements without bytes in the list or map at the start of the bytes are those in the
+-- `count` values, keys or elements, of the body.
+abbrev pub HasCountOf : List ℕ → ℕ → List ℕ → Type 0
+HasCountOf bytes count body = (c : Counter) (f : FrameReader) (k : ContentCounter) (h : ContentReader)
+    → in_frame c f k h bytes ≡ sum_of c f count body
+
+-- The same for an array, given its payloads.
+abbrev pub HasCountOfPayloads : List ℕ → ℕ → ℕ → List ℕ → Type 0
+HasCountOfPayloads bytes count code payloads = (depth : ℕ) (ts : List Tree) → gather (item_of depth code) count payloads [] ≡ Some (ts, [])
+    → elements_without_bytes (suc (suc depth)) bytes ≡ sum_of (λ s. elements_without_bytes (suc depth) (code ∷ s)) (item_of depth code) count payloads

@@ -1,9 +1,10 @@
 //! The headers of lists, maps, arrays and described values.
 
-ghost use Rattle.std.specs.Prelude.{◌≡◌, ◌∷◌, IfOk, Some, suc};
+ghost use Rattle.std.specs.Prelude.{◌≡◌, ◌∷◌, ◌*◌, IfOk, Some, suc};
 ghost use Rattle.amqp_ser.specs.Tree.{code as numbered};
 ghost use Rattle.amqp_decode.specs.Parsed.{descriptor_at};
 ghost use Rattle.amqp_decode.specs.Prefix.{IsListOf, IsMapOf, IsArrayOf, IsDescribedBy};
+ghost use Rattle.amqp_decode.specs.Prefix.{HasCountOf, HasCountOfPayloads};
 
 use crate::prefix::bytes::{split_byte, split_bytes, split_number, split_sized};
 use crate::prefix::gave_up::GaveUp;
@@ -27,7 +28,8 @@ pub fn below(depth: u16) -> Result<u16, GaveUp>
 /// The codes `45`, `c0` and `d0` (AMQP 1.0 part 1, section 1.6.22).
 #[inline(always)]
 pub fn split_list(code: u8, bytes: &[u8]) -> Result<(u32, &[u8], &[u8]), GaveUp>
-    ensures { IfOk result (λ r. IsListOf (code ∷ bytes.now) r.2.now r.0 r.1.now) }
+    ensures opened { IfOk result (λ r. IsListOf (code ∷ bytes.now) r.2.now r.0 r.1.now) }
+    ensures counted { IfOk result (λ r. HasCountOf (code ∷ bytes.now) r.0 r.1.now) }
 {
     match code {
         0xc0 => {
@@ -52,7 +54,8 @@ pub fn split_list(code: u8, bytes: &[u8]) -> Result<(u32, &[u8], &[u8]), GaveUp>
 /// The codes `c1` and `d1` (AMQP 1.0 part 1, section 1.6.23). Gives up on an odd count.
 #[inline(always)]
 pub fn split_map(code: u8, bytes: &[u8]) -> Result<(u32, &[u8], &[u8]), GaveUp>
-    ensures { IfOk result (λ r. IsMapOf (code ∷ bytes.now) r.2.now r.0 r.1.now) }
+    ensures opened { IfOk result (λ r. IsMapOf (code ∷ bytes.now) r.2.now r.0 r.1.now) }
+    ensures counted { IfOk result (λ r. HasCountOf (code ∷ bytes.now) (2 * r.0) r.1.now) }
 {
     let wide = match code {
         0xc1 => false,
@@ -75,7 +78,8 @@ pub fn split_map(code: u8, bytes: &[u8]) -> Result<(u32, &[u8], &[u8]), GaveUp>
 /// and on elements without bytes (`40` to `45`), of which the bytes do not limit the number.
 #[inline(always)]
 pub fn split_array(code: u8, bytes: &[u8]) -> Result<(u32, u8, &[u8], &[u8]), GaveUp>
-    ensures { IfOk result (λ r. IsArrayOf (code ∷ bytes.now) r.3.now r.0 r.1 r.2.now) }
+    ensures opened { IfOk result (λ r. IsArrayOf (code ∷ bytes.now) r.3.now r.0 r.1 r.2.now) }
+    ensures counted { IfOk result (λ r. HasCountOfPayloads (code ∷ bytes.now) r.0 r.1 r.2.now) }
 {
     let wide = match code {
         0xe0 => false,

@@ -4,6 +4,7 @@ ghost use Rattle.std.specs.Prelude.{◌≡◌, ◌∷◌, IfOk, Some, suc};
 ghost use Rattle.amqp_ser.specs.Carried.{descriptor_content};
 ghost use Rattle.amqp_value.specs.TreeOf.{tree_of};
 ghost use Rattle.amqp_decode.specs.Parsed.{parse, descriptor_at};
+ghost use Rattle.amqp_decode.specs.WithoutBytes.{elements_without_bytes};
 
 use crate::prefix::gave_up::GaveUp;
 use crate::read::read_after_code;
@@ -24,8 +25,10 @@ pub fn read_value_after_code(
     bytes: &mut &[u8],
     depth: u16,
 ) -> Result<Value, GaveUp>
-    ensures { IfOk result (λ v.
+    ensures read { IfOk result (λ v.
         parse (suc depth) (code ∷ bytes.old.now) ≡ Some (tree_of v, bytes.new.now)) }
+    ensures none { IfOk result (λ _.
+        elements_without_bytes (suc depth) (code ∷ bytes.old.now) ≡ 0) }
 {
     let spare = bytes.len();
     let mut limit = Some(0);

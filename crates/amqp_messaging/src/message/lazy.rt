@@ -13,7 +13,9 @@ use crate::header::Header;
 use crate::message::error::MessageError;
 use crate::message::parts::{cut, reason};
 use crate::message::read::read_part;
-use crate::message::write::{Measured, Written, front_error, measure_front, put_bytes, put_front};
+use crate::message::write::{
+    Measured, Written, compounds_of, front_error, measure_front, put_bytes, put_front,
+};
 use crate::properties::Properties;
 use serde_amqp::derive::{Deserialize, Serialize};
 use serde_amqp::{Error, Limits};
@@ -128,7 +130,7 @@ impl<'a> LazyMessage<'a> {
     ///
     /// # Memory
     /// Allocates from `alloc` once for the bytes, and for a table of 8 bytes for each compound of
-    /// the header and the annotations, at least 128 bytes.
+    /// the header and the annotations.
     pub fn to_vec(&self, alloc: Global) -> Result<Vec<u8>, MessageError>
         ensures written { IfOk result (λ v. (front : List ℕ)
             × PutsFront ⟦<Header as Serialize>⟧.tree ⟦<DeliveryAnnotations as Serialize>⟧.tree
@@ -159,8 +161,11 @@ impl<'a> LazyMessage<'a> {
     fn buffer(&self, alloc: Global) -> Option<Written>
         ensures { IfSome result (λ r. r.out.items ≡ []) }
     {
+        let compounds = compounds_of(&self.header)
+            + compounds_of(&self.delivery_annotations)
+            + compounds_of(&self.message_annotations);
         let front = measure_front(
-            Measured::new(alloc)?,
+            Measured::new(alloc, compounds)?,
             &self.header,
             &self.delivery_annotations,
             &self.message_annotations,

@@ -16,8 +16,8 @@ use crate::message::error::MessageError;
 use crate::message::parts::{cut, reason};
 use crate::message::read::{read_body, read_part};
 use crate::message::write::{
-    Measured, Written, bare_error, front_error, measure_bare, measure_front, measure_section,
-    put_bare, put_front, put_section, section_error,
+    Measured, Written, bare_error, compounds_of, front_error, measure_bare, measure_front,
+    measure_section, put_bare, put_front, put_section, section_error,
 };
 use crate::properties::Properties;
 use amqp_wire::error_of;
@@ -142,8 +142,7 @@ impl Message {
     /// Returns the error of `to_vec` for a section as `Value`.
     ///
     /// # Memory
-    /// Allocates from `alloc` once for the bytes, and for a table of 8 bytes for each compound, at
-    /// least 128 bytes.
+    /// Allocates from `alloc` once for the bytes, and for a table of 8 bytes for each compound.
     pub fn to_vec(&self, alloc: Global) -> Result<Vec<u8>, MessageError>
         ensures written { IfOk result (λ all. (front bare : List ℕ)
             × PutsFront ⟦<Header as Serialize>⟧.tree ⟦<DeliveryAnnotations as Serialize>⟧.tree
@@ -189,8 +188,14 @@ impl Message {
     fn buffer(&self, alloc: Global) -> Option<Written>
         ensures { IfSome result (λ r. r.out.items ≡ []) }
     {
+        let compounds = compounds_of(&self.header)
+            + compounds_of(&self.delivery_annotations)
+            + compounds_of(&self.message_annotations)
+            + compounds_of(&self.properties)
+            + compounds_of(&self.application_properties)
+            + compounds_of(&self.footer);
         let front = measure_front(
-            Measured::new(alloc)?,
+            Measured::new(alloc, compounds)?,
             &self.header,
             &self.delivery_annotations,
             &self.message_annotations,

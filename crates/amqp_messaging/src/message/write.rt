@@ -1,7 +1,7 @@
 //! Writes sections: all are measured, and then written into one buffer. What is not written has no
 //! error until one is looked for.
 
-ghost use Rattle.std.specs.Prelude.{◌≡◌, ◌++◌, [], Err, IfErr, IfOk, IfSome};
+ghost use Rattle.std.specs.Prelude.{◌≡◌, ◌≤◌, ◌++◌, [], Err, IfErr, IfOk, IfSome};
 ghost use Rattle.amqp_data.specs.declared.error.Error.TheVariants.{OutOfMemory};
 ghost use Rattle.amqp_messaging.specs.Messages.{PutsBare, PutsFront, PutsSection, PutsTree};
 ghost use Rattle.amqp_messaging.specs.Messages.{RefusesBare, RefusesFront, RefusesSection};
@@ -24,10 +24,9 @@ pub(crate) struct Measured {
 }
 
 impl Measured {
-    /// Creates a measurement of no sections, with room for 16 hints: the sections of a message seldom
-    /// have more compounds.
-    pub(crate) fn new(alloc: Global) -> Option<Measured> {
-        let memory = Vec::with_capacity(alloc, 16).ok()?;
+    /// Creates a measurement of no sections, with room for the hints of this many compounds.
+    pub(crate) fn new(alloc: Global, compounds: usize) -> Option<Measured> {
+        let memory = Vec::with_capacity(alloc, compounds).ok()?;
         Some(Measured {
             hints: Hints::with_memory(memory),
             len: 0,
@@ -41,6 +40,16 @@ impl Measured {
         let Measured { hints, len } = self;
         let out = Vec::with_capacity(alloc, len.checked_add(more)?).ok()?;
         Some(Written { hints, out })
+    }
+}
+
+/// Returns the number of compounds for which a section needs room at least.
+pub(crate) fn compounds_of<T>(section: &Option<T>) -> usize
+    ensures { result ≤ 1 }
+{
+    match section {
+        Some(_) => 1,
+        None => 0,
     }
 }
 

@@ -11,5 +11,5 @@ pub returns-in-Ok-read_pair : goal.returns-in-Ok-read_pair
 returns-in-Ok-read_pair g c =
     let one : c.in_ok-count.count ≡ 1 = search rules in
     pair_prefix (g.V.Variants.reads c.args.self.0) g.V.Variants.position g.V.Variants.content g.V.Variants.restorable g.V.Variants.same
-    c.args.depth c.in_ok-inside.inside _ _ c.in_ok-count.count _ c.in-Ok-read_pair.value c.in_ok-count.ensures one c.in_ok-inside.ensures
+    c.args.depth c.in_ok-inside.inside _ _ c.in_ok-count.count _ c.in-Ok-read_pair.value c.in_ok-count.ensures.opened one c.in_ok-inside.ensures
     c.in-Ok-read_pair.ensures

@@ -23,6 +23,6 @@ returns-then-keys_and_trees_differ g c =
     c.from_distinct.ensures ∙ sym (distinct_unchanged g.K.PartialEq.eq g.met.K.Eq.laws.symm entries differ) in
     map_prefix key.reads key.image key.restorable key.same value.reads value.image value.restorable value.same
     (HoldsInOrder g.K.PartialEq.eq) (λ m. entries_of m) (λ es. AreDistinct key.same g.K.PartialEq.eq (keys_of es)) (λ m n. AllZip (SamePair key.same value.same) (entries_of m) (entries_of n))
-    c.args.depth c.in_ok-inside.inside _ _ _ _ entries c.from_distinct.result c.in_ok-count.ensures c.in_ok-inside.ensures c.in_ok-entries.ensures
+    c.args.depth c.in_ok-inside.inside _ _ _ _ entries c.from_distinct.result c.in_ok-count.ensures.opened c.in_ok-inside.ensures c.in_ok-entries.ensures
     apart holds
     (λ x zip distinct. restored_in_order key.same value.same g.K.PartialEq.eq _ entries (entries_of x) zip distinct holds)
