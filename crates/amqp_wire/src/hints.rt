@@ -11,10 +11,16 @@ use amqp_ser::{Hint, Whole};
 /// The lengths and counts of compounds, in the order in which they are opened. No clause says that
 /// they are those of a value: whoever takes one compares it with what was written.
 ///
+/// The first compound that a pass opens has its hint here, whatever comes of it; a value of one
+/// compound then needs no vector.
+///
 /// # Memory
-/// 8 bytes for each compound.
+/// 8 bytes for each further compound.
 #[derive(Drop)]
 pub struct Hints {
+    first: Hint,
+    is_opened: bool,
+    is_taken: bool,
     hints: Vec<Hint>,
     taken: usize,
     /// Whether an allocation has ever failed.
@@ -28,6 +34,9 @@ impl Hints {
         let mut hints = hints;
         hints.clear();
         Hints {
+            first: Hint { len: 0, count: 0 },
+            is_opened: false,
+            is_taken: false,
             hints,
             taken: 0,
             refused: false,
@@ -38,6 +47,9 @@ impl Hints {
     #[inline(always)]
     pub fn into_memory(self) -> Vec<Hint> {
         let Hints {
+            first: _,
+            is_opened: _,
+            is_taken: _,
             hints,
             taken: _,
             refused: _,
@@ -51,32 +63,37 @@ impl Hints {
         self.refused
     }
 
-    /// Reserves the slot of a compound and returns its index, also if an allocation fails.
+    /// Reserves the slot of a compound and returns its number, also if an allocation fails.
     #[inline(always)]
     pub(crate) fn open(&mut self) -> usize {
-        let at = self.hints.len();
+        if !self.is_opened {
+            self.is_opened = true;
+            return 0;
+        }
         let hint = Hint { len: 0, count: 0 };
         if self.hints.push(hint).is_err() {
             self.refused = true;
         }
-        at
+        self.hints.len()
     }
 
     /// Sets the hint in a slot.
     #[inline(always)]
-    pub(crate) fn close(&mut self, at: usize, len: u32, count: u32) {
-        if at < self.hints.len() {
-            self.hints[at] = Hint { len, count };
+    pub(crate) fn close(&mut self, slot: usize, len: u32, count: u32) {
+        if slot == 0 {
+            self.first = Hint { len, count };
+        } else if slot <= self.hints.len() {
+            self.hints[slot - 1] = Hint { len, count };
         }
     }
 
-    /// Returns the number of slots.
+    /// Returns the number of slots after the first.
     #[inline(always)]
     pub(crate) fn len(&self) -> usize {
         self.hints.len()
     }
 
-    /// Removes the slots from index `len` on.
+    /// Removes all but `len` slots after the first.
     #[inline(always)]
     pub(crate) fn truncate(&mut self, len: usize) {
         self.hints.truncate(len);
@@ -85,6 +102,10 @@ impl Hints {
     /// Takes the next hint.
     #[inline(always)]
     pub(crate) fn next(&mut self) -> Option<Hint> {
+        if !self.is_taken {
+            self.is_taken = true;
+            return Some(self.first);
+        }
         if self.taken >= self.hints.len() {
             return None;
         }
@@ -117,13 +138,13 @@ impl Hints {
         whole.whole_write(self.hints.as_slice(), &mut self.taken, out)
     }
 
-    /// Returns the number of hints that were taken.
+    /// Returns the number of hints that were taken after the first.
     #[inline(always)]
     pub(crate) fn taken(&self) -> usize {
         self.taken
     }
 
-    /// Goes back to a number of hints that were taken.
+    /// Goes back to a number of hints that were taken after the first.
     #[inline(always)]
     pub(crate) fn return_to(&mut self, taken: usize) {
         self.taken = taken;
