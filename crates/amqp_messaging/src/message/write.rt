@@ -43,12 +43,12 @@ impl Measured {
     }
 }
 
-/// Returns the number of compounds for which a section needs room at least.
+/// Returns a number of compounds that a section seldom exceeds.
 pub(crate) fn compounds_of<T>(section: &Option<T>) -> usize
-    ensures { result ≤ 1 }
+    ensures { result ≤ 2 }
 {
     match section {
-        Some(_) => 1,
+        Some(_) => 2,
         None => 0,
     }
 }
