@@ -68,16 +68,17 @@ item_counted : (d c : ℕ) (k : EncodingCodes) (s : List ℕ) → (c ≡ 0 → �
 unfolding elements_without_bytes content_without_bytes
 item_counted d c k s some is = rw (not-zero c some, is) refl
 
+sum_after : (a b : Counter) (f g : FrameReader) (n m : ℕ) → ((s : List ℕ) → sum_of a f n s ≡ sum_of b g n s) → (o : Option (Tree × List ℕ))
+    → m + if_read o (λ r. sum_of a f n r.1) ≡ m + if_read o (λ r. sum_of b g n r.1)
+sum_after a b f g n m same None = refl
+sum_after a b f g n m same (Some r) = ap (λ z. m + z) (same r.1)
+
 sum_same : (a b : Counter) (f g : FrameReader) → ((s : List ℕ) → a s ≡ b s) → ((s : List ℕ) → f s ≡ g s) → (n : ℕ) (s : List ℕ) → sum_of a f n s ≡ sum_of b g n s
 sum_same a b f g counts reads zero s = refl
 sum_same a b f g counts reads (suc n) s =
     ap (λ z. z + if_read (f s) (λ r. sum_of a f n r.1)) (counts s)
     ∙ ap (λ o. b s + if_read o (λ r. sum_of a f n r.1)) (reads s)
-    ∙ after (g s)
-  where
-    after : (o : Option (Tree × List ℕ)) → b s + if_read o (λ r. sum_of a f n r.1) ≡ b s + if_read o (λ r. sum_of b g n r.1)
-    after None = refl
-    after (Some r) = ap (λ z. b s + z) (sum_same a b f g counts reads n r.1)
+    ∙ sum_after a b f g n (b s) (sum_same a b f g counts reads n) (g s)
 
 no_own : (k : EncodingCodes) (c n : ℕ) → code_of k ≡ c → (c / 16 == 4) ≡ false → own_items k n ≡ 0
 no_own k c n is bytes =
