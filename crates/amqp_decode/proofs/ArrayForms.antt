@@ -17,7 +17,7 @@ use Rattle.amqp_decode.specs.declared.payload_shape.PayloadShape.TheVariants as 
 use Rattle.amqp_decode.proofs.CodeLemmas.{primitive-found, primitive-nonzero, primitive-says}
 use Rattle.amqp_decode.proofs.Finds.{payload-found}
 use Rattle.amqp_decode.specs.Prefix.{HasCountOfPayloads, IsArrayOf, IsDescribedBy, item_of}
-use Rattle.amqp_decode.specs.WithoutBytes.{Counter, if_read, in_array, in_frame, in_payload, own_items, sum_of, elements_without_bytes, content_without_bytes}
+use Rattle.amqp_decode.specs.WithoutBytes.{Counter, if_read, in_frame, in_payload, own_items, sum_of, elements_without_bytes, content_without_bytes}
 use Rattle.amqp_decode.proofs.Levels.{parse_frame, both, level_in}
 use Rattle.amqp_decode.proofs.Gathers.{gather_same}
 use Rattle.amqp_decode.proofs.Steps.{not-zero}
@@ -97,9 +97,11 @@ array_counted code k s content rest n c payloads ok is found counted many some b
     let inside : in_frame (elements_without_bytes (suc depth)) (parse (suc depth)) (content_without_bytes (suc depth)) (parse_content (suc depth)) (code_of code ∷ s)
     ≡ own_items at.0 n + sum_of (in_payload (content_without_bytes (suc depth)) at.0) (payload_in (parse_content (suc depth)) at.0) n payloads =
     rw (primitive-nonzero code ok, primitive-found code ok, found, is, counted, at.1) refl in
+    let own : own_items at.0 n ≡ 0 = no_own at.0 c n (primitive-says c at.0 at.1).0 bytes in
+    let payloads_alone : in_frame (elements_without_bytes (suc depth)) (parse (suc depth)) (content_without_bytes (suc depth)) (parse_content (suc depth)) (code_of code ∷ s)
+    ≡ sum_of (in_payload (content_without_bytes (suc depth)) at.0) (payload_in (parse_content (suc depth)) at.0) n payloads = omega (arith, inside, own) in
     count_at (suc depth) (code_of code ∷ s)
-    ∙ inside
-    ∙ ap (λ z. z + sum_of (in_payload (content_without_bytes (suc depth)) at.0) (payload_in (parse_content (suc depth)) at.0) n payloads) (no_own at.0 c n (primitive-says c at.0 at.1).0 bytes)
+    ∙ payloads_alone
     ∙ sum_same (in_payload (content_without_bytes (suc depth)) at.0) (λ z. elements_without_bytes (suc depth) (c ∷ z)) (payload_in (parse_content (suc depth)) at.0) (item_of depth c)
     (λ z. item_counted depth c at.0 z some at.1) (λ z. sym (item_payload depth c at.0 z some at.1)) n payloads
 
