@@ -6,17 +6,16 @@ use Rattle.amqp_ser.specs.Tree.{Tree}
 use Rattle.amqp_decode.specs.Faults.{DecodeFails}
 use Rattle.amqp_decode.specs.Located.{IsPlaced}
 use Rattle.amqp_decode.specs.Spells.{Spells}
-use Rattle.amqp_read.specs.Spelled.{error_of}
 use Rattle.amqp_from_slice.specs.declared.located.SliceError.{SliceError}
 use Rattle.amqp_from_slice.specs.declared.located.SliceError.TheVariants.{Bytes, Value}
 
 -- The error without its place.
 abbrev pub error_in : SliceError → Error
 error_in (Bytes located) = located.error
-error_in (Value fault) = error_of fault.kind
+error_in (Value error) = error.error
 
 -- The bytes have their first fault at the place, which gives the error; or they encode a value.
 abbrev pub IsLocatedIn : List ℕ → SliceError → Type 0
 IsLocatedIn bytes (Bytes located) =
     DecodeFails 256 bytes located.error × (¬ (located.error ≡ OutOfMemory) → IsPlaced located.place 256 bytes)
-IsLocatedIn bytes (Value fault) = (t : Tree) × Spells 256 bytes t
+IsLocatedIn bytes (Value error) = (t : Tree) × Spells 256 bytes t
