@@ -20,155 +20,69 @@ pub struct AmqpError {
 
 // amqp: the impls below are written by tools/derive from the annotations above
 use serde_amqp::derive::{
-    Composite, Deserialize, DeserializeSeed, Deserializer, FieldSeeds, FieldValues, FromParts,
-    GaveUp, Global, ListOf, ListSeed, Optional, Record, Required, RoundTrip, RoundTripComposite,
-    Serialize, SerializeCompounds, Serializer, build, build_encoded, fields, laws, named,
-    read_composite_type, read_composite_type_encoded,
+    Composite, Fault, Global, ListOf, Optional, Record, Required, RoundTripComposite, Serialize,
+    SerializeCompounds, Serializer, Shape, ShapeTree, Source, built, composite_returns, fields,
+    named, read_shaped,
 };
 
-impl Serialize for AmqpError {
-    ghost use Rattle.std.specs.Prelude.{[], ◌∷◌};
-    ghost use Rattle.serde_amqp.specs.Derive.{code, short_composite, required_value, optional_value, of_string, of_symbol};
-
-    ghost tree = { λ x. short_composite (code 0x1d) (
-        required_value (of_symbol x.condition)
-        ∷ optional_value of_string x.description
-        ∷ optional_value ⟦<OrderedMap<Symbol, Value> as Serialize>⟧.tree x.info
-        ∷ []) };
-
-    fn serialize<S: Serializer>(&self, serializer: &mut S) -> Result<S::Ok, S::Error> {
-        serializer.serialize_described(
-            &0x1du64,
-            &ListOf(fields! {
-                "condition": &self.condition,
-                "description"?: &self.description,
-                "info"?: &self.info,
-            }),
-        )
-    }
-}
-
-/// The fields of [`AmqpError`], as they are read.
+/// What an [`AmqpError`] is read from.
 type AmqpErrorFields = Required<Symbol, Optional<String, Optional<OrderedMap<Symbol, Value>, ()>>>;
+
+type AmqpErrorShape = ListOf<AmqpErrorFields>;
 
 impl Record for AmqpError {
     ghost use Rattle.serde_amqp.specs.Derive.{◌▸◌};
 
-    type Values = <AmqpErrorFields as FieldSeeds>::Values;
+    type Values = <AmqpErrorShape as Shape>::Value;
 
     ghost parts = { λ x. x.condition ▸ x.description ▸ x.info ▸ tt };
-}
 
-impl FromParts for AmqpError {
-    fn from_parts(parts: <AmqpErrorFields as FieldSeeds>::Values) -> AmqpError {
-        let FieldValues {
-            value: condition,
-            rest,
-        } = parts;
-        let FieldValues {
-            value: description,
-            rest,
-        } = rest;
-        let FieldValues {
-            value: info,
-            rest: (),
-        } = rest;
-        AmqpError {
-            condition,
-            description,
-            info,
-        }
+    fn from_parts(values: <AmqpErrorShape as Shape>::Value) -> AmqpError {
+        built! { values => AmqpError { condition, description, info } }
     }
 }
 
 impl Composite for AmqpError {
     ghost use Rattle.std.specs.Prelude.{codes};
-    ghost use Rattle.serde_amqp.specs.Derive.{OnFields, ReadsRequired, ReadsOptional, NoMoreFields};
+    ghost use Rattle.serde_amqp.specs.Derive.{by_parts};
 
     ghost descriptor_code = { 0x1d };
 
     ghost descriptor_name = { codes "amqp:error:list" };
 
-    ghost reads = { λ t x. OnFields (
-        ReadsRequired (codes "condition") ⟦<Symbol as Deserialize>⟧.reads x.condition (
-        ReadsOptional (codes "description") ⟦<String as Deserialize>⟧.reads x.description (
-        ReadsOptional (codes "info") ⟦<OrderedMap<Symbol, Value> as Deserialize>⟧.reads x.info
-        NoMoreFields))) t };
+    ghost body = { by_parts ⟦<AmqpErrorShape as Shape>⟧.laws ⟦<AmqpError as Record>⟧.parts };
 
-    ghost image = { λ x. ⟦<ListSeed<AmqpErrorFields> as DeserializeSeed>⟧.short (⟦<AmqpError as Record>⟧.parts x) };
-
-    ghost restorable = { λ x. ⟦<ListSeed<AmqpErrorFields> as DeserializeSeed>⟧.restorable (⟦<AmqpError as Record>⟧.parts x) };
-
-    ghost same = { λ x y. ⟦<ListSeed<AmqpErrorFields> as DeserializeSeed>⟧.same (⟦<AmqpError as Record>⟧.parts x) (⟦<AmqpError as Record>⟧.parts y) };
-
-    fn code() -> u64 {
-        0x1d
+    fn descriptor() -> (u64, &'static str) {
+        (0x1d, "amqp:error:list")
     }
 
-    fn name() -> &'static str {
-        "amqp:error:list"
-    }
-
-    fn read_body<D: Deserializer>(alloc: Global, deserializer: D) -> Result<AmqpError, D::Error> {
-        build::<AmqpError, D, _>(
-            alloc,
-            deserializer,
-            ListSeed(named! { "condition", "description"?, "info"? }),
-        )
-    }
-
-    fn read_body_encoded(
-        alloc: Global,
-        code: u8,
-        input: &mut &[u8],
-        depth: u16,
-    ) -> Result<AmqpError, GaveUp> {
-        build_encoded::<AmqpError, _>(
-            alloc,
-            code,
-            input,
-            depth,
-            ListSeed(named! { "condition", "description"?, "info"? }),
-        )
+    #[inline(always)]
+    fn read_body<S: Source>(alloc: Global, source: S) -> Result<(AmqpError, S::Rest), Fault> {
+        let fields = named! { "condition", "description"?, "info"? };
+        read_shaped(alloc, source, ListOf(fields))
     }
 }
 
-impl Deserialize for AmqpError {
-    ghost use Rattle.std.specs.Prelude.{codes};
-    ghost use Rattle.serde_amqp.specs.Derive.{code, described, OnComposite};
+impl Serialize for AmqpError {
+    ghost use Rattle.serde_amqp.specs.Derive.{after_code};
 
-    ghost reads = { λ t x. OnComposite 0x1d (codes "amqp:error:list") (λ u. ⟦<AmqpError as Composite>⟧.reads u x) t };
+    ghost tree = { after_code 0x1d ⟦<AmqpErrorShape as ShapeTree>⟧.tree
+        ⟦<AmqpError as Record>⟧.parts };
 
-    ghost image = { λ x. described (code 0x1d) (⟦<AmqpError as Composite>⟧.image x) };
-
-    ghost restorable = { ⟦<AmqpError as Composite>⟧.restorable };
-
-    ghost same = { ⟦<AmqpError as Composite>⟧.same };
-
-    fn deserialize<D: Deserializer>(alloc: Global, deserializer: D) -> Result<AmqpError, D::Error> {
-        read_composite_type::<AmqpError, D>(alloc, deserializer)
-    }
-
-    fn read_encoded(
-        alloc: Global,
-        code: u8,
-        input: &mut &[u8],
-        depth: u16,
-    ) -> Result<AmqpError, GaveUp> {
-        read_composite_type_encoded::<AmqpError>(alloc, code, input, depth)
+    fn serialize<S: Serializer>(&self, serializer: &mut S) -> Result<S::Ok, S::Error> {
+        serializer.serialize_described(
+            &0x1du64,
+            &ListOf(fields! {
+                "condition": &self.condition, "description"?: &self.description,
+                "info"?: &self.info
+            }),
+        )
     }
 }
 
 impl RoundTripComposite for AmqpError {
     fn composite_law() {
-        laws::short_fields_return::<AmqpError, AmqpErrorFields>();
-        laws::described_return();
-    }
-}
-
-impl RoundTrip for AmqpError {
-    fn law() {
-        <AmqpError as RoundTripComposite>::composite_law();
+        composite_returns::<AmqpError, AmqpErrorShape>();
     }
 }
 // amqp: end of the impls

@@ -25,172 +25,71 @@ pub struct Header {
 
 // amqp: the impls below are written by tools/derive from the annotations above
 use serde_amqp::derive::{
-    Composite, Deserialize, DeserializeSeed, Deserializer, FieldSeeds, FieldValues, FromParts,
-    GaveUp, Global, ListOf, ListSeed, Optional, Record, RoundTrip, RoundTripComposite, Serialize,
-    SerializeCompounds, Serializer, build, build_encoded, fields, laws, named, read_composite_type,
-    read_composite_type_encoded,
+    Composite, Fault, Global, ListOf, Optional, Record, RoundTripComposite, Serialize,
+    SerializeCompounds, Serializer, Shape, ShapeTree, Source, built, composite_returns, fields,
+    named, read_shaped,
 };
 
-impl Serialize for Header {
-    ghost use Rattle.std.specs.Prelude.{[], ◌∷◌};
-    ghost use Rattle.serde_amqp.specs.Derive.{code, short_composite, optional_value, of_bool, of_u32, of_u8};
-
-    ghost tree = { λ x. short_composite (code 0x70) (
-        optional_value of_bool x.durable
-        ∷ optional_value of_u8 x.priority
-        ∷ optional_value of_u32 x.ttl
-        ∷ optional_value of_bool x.first_acquirer
-        ∷ optional_value of_u32 x.delivery_count
-        ∷ []) };
-
-    fn serialize<S: Serializer>(&self, serializer: &mut S) -> Result<S::Ok, S::Error> {
-        serializer.serialize_described(
-            &0x70u64,
-            &ListOf(fields! {
-                "durable"?: &self.durable,
-                "priority"?: &self.priority,
-                "ttl"?: &self.ttl,
-                "first-acquirer"?: &self.first_acquirer,
-                "delivery-count"?: &self.delivery_count,
-            }),
-        )
-    }
-}
-
-/// The fields of [`Header`], as they are read.
+/// What a [`Header`] is read from.
 type HeaderFields = Optional<bool, Optional<u8, Optional<u32, Optional<bool, Optional<u32, ()>>>>>;
+
+type HeaderShape = ListOf<HeaderFields>;
 
 impl Record for Header {
     ghost use Rattle.serde_amqp.specs.Derive.{◌▸◌};
 
-    type Values = <HeaderFields as FieldSeeds>::Values;
+    type Values = <HeaderShape as Shape>::Value;
 
-    ghost parts = { λ x. x.durable ▸ x.priority ▸ x.ttl ▸ x.first_acquirer ▸ x.delivery_count ▸ tt };
-}
+    ghost parts = { λ x. x.durable ▸ x.priority ▸ x.ttl ▸ x.first_acquirer ▸ x.delivery_count ▸
+        tt };
 
-impl FromParts for Header {
-    fn from_parts(parts: <HeaderFields as FieldSeeds>::Values) -> Header {
-        let FieldValues {
-            value: durable,
-            rest,
-        } = parts;
-        let FieldValues {
-            value: priority,
-            rest,
-        } = rest;
-        let FieldValues { value: ttl, rest } = rest;
-        let FieldValues {
-            value: first_acquirer,
-            rest,
-        } = rest;
-        let FieldValues {
-            value: delivery_count,
-            rest: (),
-        } = rest;
-        Header {
-            durable,
-            priority,
-            ttl,
-            first_acquirer,
-            delivery_count,
-        }
+    fn from_parts(values: <HeaderShape as Shape>::Value) -> Header {
+        built! { values => Header { durable, priority, ttl, first_acquirer, delivery_count } }
     }
 }
 
 impl Composite for Header {
     ghost use Rattle.std.specs.Prelude.{codes};
-    ghost use Rattle.serde_amqp.specs.Derive.{OnFields, ReadsOptional, NoMoreFields};
+    ghost use Rattle.serde_amqp.specs.Derive.{by_parts};
 
     ghost descriptor_code = { 0x70 };
 
     ghost descriptor_name = { codes "amqp:header:list" };
 
-    ghost reads = { λ t x. OnFields (
-        ReadsOptional (codes "durable") ⟦<bool as Deserialize>⟧.reads x.durable (
-        ReadsOptional (codes "priority") ⟦<u8 as Deserialize>⟧.reads x.priority (
-        ReadsOptional (codes "ttl") ⟦<u32 as Deserialize>⟧.reads x.ttl (
-        ReadsOptional (codes "first-acquirer") ⟦<bool as Deserialize>⟧.reads x.first_acquirer (
-        ReadsOptional (codes "delivery-count") ⟦<u32 as Deserialize>⟧.reads x.delivery_count
-        NoMoreFields))))) t };
+    ghost body = { by_parts ⟦<HeaderShape as Shape>⟧.laws ⟦<Header as Record>⟧.parts };
 
-    ghost image = { λ x. ⟦<ListSeed<HeaderFields> as DeserializeSeed>⟧.short (⟦<Header as Record>⟧.parts x) };
-
-    ghost restorable = { λ x. ⟦<ListSeed<HeaderFields> as DeserializeSeed>⟧.restorable (⟦<Header as Record>⟧.parts x) };
-
-    ghost same = { λ x y. ⟦<ListSeed<HeaderFields> as DeserializeSeed>⟧.same (⟦<Header as Record>⟧.parts x) (⟦<Header as Record>⟧.parts y) };
-
-    fn code() -> u64 {
-        0x70
+    fn descriptor() -> (u64, &'static str) {
+        (0x70, "amqp:header:list")
     }
 
-    fn name() -> &'static str {
-        "amqp:header:list"
-    }
-
-    fn read_body<D: Deserializer>(alloc: Global, deserializer: D) -> Result<Header, D::Error> {
-        build::<Header, D, _>(
-            alloc,
-            deserializer,
-            ListSeed(
-                named! { "durable"?, "priority"?, "ttl"?, "first-acquirer"?, "delivery-count"? },
-            ),
-        )
-    }
-
-    fn read_body_encoded(
-        alloc: Global,
-        code: u8,
-        input: &mut &[u8],
-        depth: u16,
-    ) -> Result<Header, GaveUp> {
-        build_encoded::<Header, _>(
-            alloc,
-            code,
-            input,
-            depth,
-            ListSeed(
-                named! { "durable"?, "priority"?, "ttl"?, "first-acquirer"?, "delivery-count"? },
-            ),
-        )
+    #[inline(always)]
+    fn read_body<S: Source>(alloc: Global, source: S) -> Result<(Header, S::Rest), Fault> {
+        let fields = named! {
+            "durable"?, "priority"?, "ttl"?, "first-acquirer"?, "delivery-count"?
+        };
+        read_shaped(alloc, source, ListOf(fields))
     }
 }
 
-impl Deserialize for Header {
-    ghost use Rattle.std.specs.Prelude.{codes};
-    ghost use Rattle.serde_amqp.specs.Derive.{code, described, OnComposite};
+impl Serialize for Header {
+    ghost use Rattle.serde_amqp.specs.Derive.{after_code};
 
-    ghost reads = { λ t x. OnComposite 0x70 (codes "amqp:header:list") (λ u. ⟦<Header as Composite>⟧.reads u x) t };
+    ghost tree = { after_code 0x70 ⟦<HeaderShape as ShapeTree>⟧.tree ⟦<Header as Record>⟧.parts };
 
-    ghost image = { λ x. described (code 0x70) (⟦<Header as Composite>⟧.image x) };
-
-    ghost restorable = { ⟦<Header as Composite>⟧.restorable };
-
-    ghost same = { ⟦<Header as Composite>⟧.same };
-
-    fn deserialize<D: Deserializer>(alloc: Global, deserializer: D) -> Result<Header, D::Error> {
-        read_composite_type::<Header, D>(alloc, deserializer)
-    }
-
-    fn read_encoded(
-        alloc: Global,
-        code: u8,
-        input: &mut &[u8],
-        depth: u16,
-    ) -> Result<Header, GaveUp> {
-        read_composite_type_encoded::<Header>(alloc, code, input, depth)
+    fn serialize<S: Serializer>(&self, serializer: &mut S) -> Result<S::Ok, S::Error> {
+        serializer.serialize_described(
+            &0x70u64,
+            &ListOf(fields! {
+                "durable"?: &self.durable, "priority"?: &self.priority, "ttl"?: &self.ttl,
+                "first-acquirer"?: &self.first_acquirer, "delivery-count"?: &self.delivery_count
+            }),
+        )
     }
 }
 
 impl RoundTripComposite for Header {
     fn composite_law() {
-        laws::short_fields_return::<Header, HeaderFields>();
-        laws::described_return();
-    }
-}
-
-impl RoundTrip for Header {
-    fn law() {
-        <Header as RoundTripComposite>::composite_law();
+        composite_returns::<Header, HeaderShape>();
     }
 }
 

@@ -45,16 +45,41 @@ pub enum AnnotationKey {
 
 // amqp: the impls below are written by tools/derive from the annotations above
 use serde_amqp::derive::{
-    Content, Deserialize, DeserializeError, Deserializer, GaveUp, Global, MapKey, RoundTrip,
-    Serialize, Serializer,
+    Fault, Global, MapKey, Readable, RoundTrip, Serialize, Serializer, Source, Value,
 };
 
-impl Serialize for MessageId {
-    ghost use Rattle.std.specs.Prelude.{Some, string_bytes};
-    ghost use Rattle.serde_amqp.specs.Derive.{byte_buf_bytes, uuid_bytes, Scalar, scalar, ulong, uuid, binary, string};
+impl Readable for MessageId {
+    ghost use Rattle.std.specs.Prelude.{string_bytes};
+    ghost use Rattle.serde_amqp.specs.Derive.{byte_buf_bytes, uuid_bytes, Scalar, ulong, uuid};
+    ghost use Rattle.serde_amqp.specs.Derive.{binary, string, by_scalar};
     ghost use Rattle.amqp_messaging.specs.declared.identifiers.MessageId.TheVariants as variant;
 
-    ghost tree = { λ x. Some (scalar (elim x as (λ _. Scalar) [ variant.Ulong v ↦ ulong v | variant.Uuid v ↦ uuid (uuid_bytes v) | variant.Binary v ↦ binary (byte_buf_bytes v) | variant.String v ↦ string (string_bytes v) ])) };
+    ghost laws = { by_scalar (λ x. elim x as (λ _. Scalar) [
+      | variant.Ulong v ↦ ulong v
+      | variant.Uuid v ↦ uuid (uuid_bytes v)
+      | variant.Binary v ↦ binary (byte_buf_bytes v)
+      | variant.String v ↦ string (string_bytes v)
+    ]) };
+
+    fn read_value<S: Source>(alloc: Global, source: S) -> Result<(MessageId, S::Rest), Fault> {
+        let (value, rest) = match source.untyped(alloc) {
+            Ok(read) => read,
+            Err(fault) => return Err(fault),
+        };
+        match value {
+            Value::Ulong(value) => Ok((MessageId::Ulong(value), rest)),
+            Value::Uuid(value) => Ok((MessageId::Uuid(value), rest)),
+            Value::Binary(value) => Ok((MessageId::Binary(value), rest)),
+            Value::String(value) => Ok((MessageId::String(value), rest)),
+            _ => Err(Fault::invalid()),
+        }
+    }
+}
+
+impl Serialize for MessageId {
+    ghost use Rattle.std.specs.Prelude.{Some};
+
+    ghost tree = { λ x. Some (⟦<MessageId as Readable>⟧.laws.image x) };
 
     fn serialize<S: Serializer>(&self, serializer: &mut S) -> Result<S::Ok, S::Error> {
         match self {
@@ -66,107 +91,40 @@ impl Serialize for MessageId {
     }
 }
 
-impl Deserialize for MessageId {
-    ghost use Rattle.std.specs.Prelude.{◌≡◌, string_bytes};
-    ghost use Rattle.serde_amqp.specs.Derive.{byte_buf_bytes, uuid_bytes, Scalar, scalar, ulong, uuid, binary, string, Always};
-    ghost use Rattle.amqp_messaging.specs.declared.identifiers.MessageId.TheVariants as variant;
-
-    ghost reads = { λ t x. t ≡ scalar (elim x as (λ _. Scalar) [ variant.Ulong v ↦ ulong v | variant.Uuid v ↦ uuid (uuid_bytes v) | variant.Binary v ↦ binary (byte_buf_bytes v) | variant.String v ↦ string (string_bytes v) ]) };
-
-    ghost image = { λ x. scalar (elim x as (λ _. Scalar) [ variant.Ulong v ↦ ulong v | variant.Uuid v ↦ uuid (uuid_bytes v) | variant.Binary v ↦ binary (byte_buf_bytes v) | variant.String v ↦ string (string_bytes v) ]) };
-
-    ghost restorable = { Always };
-
-    ghost same = { λ x y. scalar (elim x as (λ _. Scalar) [ variant.Ulong v ↦ ulong v | variant.Uuid v ↦ uuid (uuid_bytes v) | variant.Binary v ↦ binary (byte_buf_bytes v) | variant.String v ↦ string (string_bytes v) ]) ≡ scalar (elim y as (λ _. Scalar) [ variant.Ulong v ↦ ulong v | variant.Uuid v ↦ uuid (uuid_bytes v) | variant.Binary v ↦ binary (byte_buf_bytes v) | variant.String v ↦ string (string_bytes v) ]) };
-
-    fn deserialize<D: Deserializer>(
-        _alloc: Global,
-        deserializer: D,
-    ) -> Result<MessageId, D::Error> {
-        match deserializer.open() {
-            Content::Ulong(value) => Ok(MessageId::Ulong(value)),
-            Content::Uuid(value) => Ok(MessageId::Uuid(value)),
-            Content::Binary(value) => Ok(MessageId::Binary(value)),
-            Content::String(value) => Ok(MessageId::String(value)),
-            _ => Err(D::Error::invalid_value()),
-        }
-    }
-
-    fn read_encoded(
-        alloc: Global,
-        code: u8,
-        input: &mut &[u8],
-        depth: u16,
-    ) -> Result<MessageId, GaveUp> {
-        let start = *input;
-        if let Ok(value) = <u64 as Deserialize>::read_encoded(alloc, code, input, depth) {
-            return Ok(MessageId::Ulong(value));
-        }
-        *input = start;
-        if let Ok(value) = <Uuid as Deserialize>::read_encoded(alloc, code, input, depth) {
-            return Ok(MessageId::Uuid(value));
-        }
-        *input = start;
-        if let Ok(value) = <ByteBuf as Deserialize>::read_encoded(alloc, code, input, depth) {
-            return Ok(MessageId::Binary(value));
-        }
-        *input = start;
-        if let Ok(value) = <String as Deserialize>::read_encoded(alloc, code, input, depth) {
-            return Ok(MessageId::String(value));
-        }
-        Err(GaveUp)
-    }
-}
-
 impl RoundTrip for MessageId {
     fn law() {}
 }
 
-impl Serialize for Address {
-    ghost use Rattle.std.specs.Prelude.{Some, string_bytes};
-    ghost use Rattle.serde_amqp.specs.Derive.{Scalar, scalar, string};
+impl Readable for Address {
+    ghost use Rattle.std.specs.Prelude.{string_bytes};
+    ghost use Rattle.serde_amqp.specs.Derive.{Scalar, string, by_scalar};
     ghost use Rattle.amqp_messaging.specs.declared.identifiers.Address.TheVariants as variant;
 
-    ghost tree = { λ x. Some (scalar (elim x as (λ _. Scalar) [ variant.String v ↦ string (string_bytes v) ])) };
+    ghost laws = { by_scalar (λ x. elim x as (λ _. Scalar) [
+      | variant.String v ↦ string (string_bytes v)
+    ]) };
+
+    fn read_value<S: Source>(alloc: Global, source: S) -> Result<(Address, S::Rest), Fault> {
+        let (value, rest) = match source.untyped(alloc) {
+            Ok(read) => read,
+            Err(fault) => return Err(fault),
+        };
+        match value {
+            Value::String(value) => Ok((Address::String(value), rest)),
+            _ => Err(Fault::invalid()),
+        }
+    }
+}
+
+impl Serialize for Address {
+    ghost use Rattle.std.specs.Prelude.{Some};
+
+    ghost tree = { λ x. Some (⟦<Address as Readable>⟧.laws.image x) };
 
     fn serialize<S: Serializer>(&self, serializer: &mut S) -> Result<S::Ok, S::Error> {
         match self {
             Address::String(value) => value.serialize(serializer),
         }
-    }
-}
-
-impl Deserialize for Address {
-    ghost use Rattle.std.specs.Prelude.{◌≡◌, string_bytes};
-    ghost use Rattle.serde_amqp.specs.Derive.{Scalar, scalar, string, Always};
-    ghost use Rattle.amqp_messaging.specs.declared.identifiers.Address.TheVariants as variant;
-
-    ghost reads = { λ t x. t ≡ scalar (elim x as (λ _. Scalar) [ variant.String v ↦ string (string_bytes v) ]) };
-
-    ghost image = { λ x. scalar (elim x as (λ _. Scalar) [ variant.String v ↦ string (string_bytes v) ]) };
-
-    ghost restorable = { Always };
-
-    ghost same = { λ x y. scalar (elim x as (λ _. Scalar) [ variant.String v ↦ string (string_bytes v) ]) ≡ scalar (elim y as (λ _. Scalar) [ variant.String v ↦ string (string_bytes v) ]) };
-
-    fn deserialize<D: Deserializer>(_alloc: Global, deserializer: D) -> Result<Address, D::Error> {
-        match deserializer.open() {
-            Content::String(value) => Ok(Address::String(value)),
-            _ => Err(D::Error::invalid_value()),
-        }
-    }
-
-    fn read_encoded(
-        alloc: Global,
-        code: u8,
-        input: &mut &[u8],
-        depth: u16,
-    ) -> Result<Address, GaveUp> {
-        let start = *input;
-        if let Ok(value) = <String as Deserialize>::read_encoded(alloc, code, input, depth) {
-            return Ok(Address::String(value));
-        }
-        Err(GaveUp)
     }
 }
 
@@ -179,7 +137,10 @@ impl Serialize for AnnotationKey {
     ghost use Rattle.serde_amqp.specs.Derive.{symbol_text, Scalar, scalar, ulong, symbol};
     ghost use Rattle.amqp_messaging.specs.declared.identifiers.AnnotationKey.TheVariants as variant;
 
-    ghost tree = { λ x. Some (scalar (elim x as (λ _. Scalar) [ variant.Symbol v ↦ symbol (symbol_text v) | variant.Ulong v ↦ ulong v ])) };
+    ghost tree = { λ x. Some (scalar (elim x as (λ _. Scalar) [
+      | variant.Symbol v ↦ symbol (symbol_text v)
+      | variant.Ulong v ↦ ulong v
+    ])) };
 
     fn serialize<S: Serializer>(&self, serializer: &mut S) -> Result<S::Ok, S::Error> {
         match self {

@@ -10,7 +10,7 @@ use crate::unknown::Unknown;
 ///
 /// # Encoding
 /// The composite of the variant.
-// amqp: encoding = "described", others, no_one_pass
+// amqp: encoding = "described", others
 #[derive(Debug, PartialEq, Drop)]
 pub enum Section {
     /// How a message is delivered.
@@ -37,39 +37,72 @@ pub enum Section {
 
 // amqp: the impls below are written by tools/derive from the annotations above
 use serde_amqp::derive::{
-    Alternatives, Deserialize, Deserializer, Either, Global, Record, RoundTrip,
-    RoundTripAlternatives, Serialize, Serializer, laws, read_alternatives,
+    Either, Fault, Global, OneOfTypes, PhantomData, Readable, Record, RoundTrip, Serialize,
+    Serializer, Shape, ShapeTree, Source, parts_return, place, read_shaped,
 };
 
+/// What a [`Section`] is read from.
+type SectionTypes = Either<Header, Either<DeliveryAnnotations, SectionTypes2>>;
+
+type SectionTypes2 = Either<MessageAnnotations, Either<Properties, SectionTypes3>>;
+
+type SectionTypes3 = Either<ApplicationProperties, Either<Data, SectionTypes4>>;
+
+type SectionTypes4 = Either<AmqpSequence, Either<AmqpValue, Either<Footer, Unknown>>>;
+
+type SectionShape = OneOfTypes<SectionTypes>;
+
 impl Record for Section {
-    ghost use Rattle.serde_amqp.specs.Derive.{This, Other};
+    ghost use Rattle.serde_amqp.specs.Derive.{first, second, third, fourth, fifth, sixth, seventh};
+    ghost use Rattle.serde_amqp.specs.Derive.{eighth, ninth, rest9};
     ghost use Rattle.amqp_messaging.specs.declared.section.Section.TheVariants as variant;
 
-    type Values = Either<
-        Header,
-        Either<
-            DeliveryAnnotations,
-            Either<
-                MessageAnnotations,
-                Either<
-                    Properties,
-                    Either<
-                        ApplicationProperties,
-                        Either<
-                            Data,
-                            Either<AmqpSequence, Either<AmqpValue, Either<Footer, Unknown>>>,
-                        >,
-                    >,
-                >,
-            >,
-        >,
-    >;
+    type Values = <SectionShape as Shape>::Value;
 
-    ghost parts = { λ x. elim x as (λ _. _) [ variant.Header v ↦ This v | variant.DeliveryAnnotations v ↦ Other (This v) | variant.MessageAnnotations v ↦ Other (Other (This v)) | variant.Properties v ↦ Other (Other (Other (This v))) | variant.ApplicationProperties v ↦ Other (Other (Other (Other (This v)))) | variant.Data v ↦ Other (Other (Other (Other (Other (This v))))) | variant.AmqpSequence v ↦ Other (Other (Other (Other (Other (Other (This v)))))) | variant.AmqpValue v ↦ Other (Other (Other (Other (Other (Other (Other (This v))))))) | variant.Footer v ↦ Other (Other (Other (Other (Other (Other (Other (Other (This v)))))))) | variant.Other v ↦ Other (Other (Other (Other (Other (Other (Other (Other (Other v)))))))) ] };
+    ghost parts = { λ x. elim x as (λ _. _) [
+      | variant.Header v ↦ first v
+      | variant.DeliveryAnnotations v ↦ second v
+      | variant.MessageAnnotations v ↦ third v
+      | variant.Properties v ↦ fourth v
+      | variant.ApplicationProperties v ↦ fifth v
+      | variant.Data v ↦ sixth v
+      | variant.AmqpSequence v ↦ seventh v
+      | variant.AmqpValue v ↦ eighth v
+      | variant.Footer v ↦ ninth v
+      | variant.Other v ↦ rest9 v
+    ] };
+
+    fn from_parts(values: <SectionShape as Shape>::Value) -> Section {
+        match values {
+            place!(0, value) => Section::Header(value),
+            place!(1, value) => Section::DeliveryAnnotations(value),
+            place!(2, value) => Section::MessageAnnotations(value),
+            place!(3, value) => Section::Properties(value),
+            place!(4, value) => Section::ApplicationProperties(value),
+            place!(5, value) => Section::Data(value),
+            place!(6, value) => Section::AmqpSequence(value),
+            place!(7, value) => Section::AmqpValue(value),
+            place!(8, value) => Section::Footer(value),
+            place!(rest 9, value) => Section::Other(value),
+        }
+    }
+}
+
+impl Readable for Section {
+    ghost use Rattle.serde_amqp.specs.Derive.{by_parts};
+
+    ghost laws = { by_parts ⟦<SectionShape as Shape>⟧.laws ⟦<Section as Record>⟧.parts };
+
+    #[inline(always)]
+    fn read_value<S: Source>(alloc: Global, source: S) -> Result<(Section, S::Rest), Fault> {
+        read_shaped(alloc, source, OneOfTypes(PhantomData))
+    }
 }
 
 impl Serialize for Section {
-    ghost tree = { λ x. ⟦<Either<Header, Either<DeliveryAnnotations, Either<MessageAnnotations, Either<Properties, Either<ApplicationProperties, Either<Data, Either<AmqpSequence, Either<AmqpValue, Either<Footer, Unknown>>>>>>>>> as RoundTripAlternatives>⟧.trees (⟦<Section as Record>⟧.parts x) };
+    ghost use Rattle.serde_amqp.specs.Derive.{tree_by_parts};
+
+    ghost tree = { tree_by_parts ⟦<SectionShape as ShapeTree>⟧.tree ⟦<Section as Record>⟧.parts };
 
     fn serialize<S: Serializer>(&self, serializer: &mut S) -> Result<S::Ok, S::Error> {
         match self {
@@ -87,76 +120,9 @@ impl Serialize for Section {
     }
 }
 
-impl Deserialize for Section {
-    ghost use Rattle.serde_amqp.specs.Derive.{code, described, OnAlternatives};
-
-    ghost reads = { λ t x. OnAlternatives ⟦<Either<Header, Either<DeliveryAnnotations, Either<MessageAnnotations, Either<Properties, Either<ApplicationProperties, Either<Data, Either<AmqpSequence, Either<AmqpValue, Either<Footer, Unknown>>>>>>>>> as Alternatives>⟧.reads t (⟦<Section as Record>⟧.parts x) };
-
-    ghost image = { λ x. described (code (⟦<Either<Header, Either<DeliveryAnnotations, Either<MessageAnnotations, Either<Properties, Either<ApplicationProperties, Either<Data, Either<AmqpSequence, Either<AmqpValue, Either<Footer, Unknown>>>>>>>>> as Alternatives>⟧.code_of (⟦<Section as Record>⟧.parts x))) (⟦<Either<Header, Either<DeliveryAnnotations, Either<MessageAnnotations, Either<Properties, Either<ApplicationProperties, Either<Data, Either<AmqpSequence, Either<AmqpValue, Either<Footer, Unknown>>>>>>>>> as Alternatives>⟧.image (⟦<Section as Record>⟧.parts x)) };
-
-    ghost restorable = { λ x. ⟦<Either<Header, Either<DeliveryAnnotations, Either<MessageAnnotations, Either<Properties, Either<ApplicationProperties, Either<Data, Either<AmqpSequence, Either<AmqpValue, Either<Footer, Unknown>>>>>>>>> as Alternatives>⟧.restorable (⟦<Section as Record>⟧.parts x) };
-
-    ghost same = { λ x y. ⟦<Either<Header, Either<DeliveryAnnotations, Either<MessageAnnotations, Either<Properties, Either<ApplicationProperties, Either<Data, Either<AmqpSequence, Either<AmqpValue, Either<Footer, Unknown>>>>>>>>> as Alternatives>⟧.same (⟦<Section as Record>⟧.parts x) (⟦<Section as Record>⟧.parts y) };
-
-    fn deserialize<D: Deserializer>(alloc: Global, deserializer: D) -> Result<Section, D::Error> {
-        match read_alternatives::<Section, D>(alloc, deserializer)? {
-            Either::This(value) => Ok(Section::Header(value)),
-            Either::Other(Either::This(value)) => Ok(Section::DeliveryAnnotations(value)),
-            Either::Other(Either::Other(Either::This(value))) => Ok(Section::MessageAnnotations(
-                value,
-            )),
-            Either::Other(Either::Other(Either::Other(Either::This(value)))) => Ok(
-                Section::Properties(value),
-            ),
-            Either::Other(Either::Other(Either::Other(Either::Other(Either::This(value))))) => Ok(
-                Section::ApplicationProperties(value),
-            ),
-            Either::Other(
-                Either::Other(Either::Other(Either::Other(Either::Other(Either::This(value))))),
-            ) => Ok(Section::Data(value)),
-            Either::Other(
-                Either::Other(
-                    Either::Other(Either::Other(Either::Other(Either::Other(Either::This(value))))),
-                ),
-            ) => Ok(Section::AmqpSequence(value)),
-            Either::Other(
-                Either::Other(
-                    Either::Other(
-                        Either::Other(
-                            Either::Other(Either::Other(Either::Other(Either::This(value)))),
-                        ),
-                    ),
-                ),
-            ) => Ok(Section::AmqpValue(value)),
-            Either::Other(
-                Either::Other(
-                    Either::Other(
-                        Either::Other(
-                            Either::Other(
-                                Either::Other(Either::Other(Either::Other(Either::This(value)))),
-                            ),
-                        ),
-                    ),
-                ),
-            ) => Ok(Section::Footer(value)),
-            Either::Other(
-                Either::Other(
-                    Either::Other(
-                        Either::Other(
-                            Either::Other(
-                                Either::Other(Either::Other(Either::Other(Either::Other(value)))),
-                            ),
-                        ),
-                    ),
-                ),
-            ) => Ok(Section::Other(value)),
-        }
-    }
-}
-
 impl RoundTrip for Section {
     fn law() {
-        laws::alternatives_return::<Section>();
+        parts_return::<Section, SectionShape>();
     }
 }
 // amqp: end of the impls

@@ -9,7 +9,7 @@ use serde_amqp::primitives::ByteBuf;
 ///
 /// # Encoding
 /// The composite of the variant.
-// amqp: encoding = "described", others, no_one_pass
+// amqp: encoding = "described", others
 #[derive(Debug, PartialEq, Drop)]
 pub enum Outcome {
     /// The message was processed.
@@ -30,7 +30,7 @@ pub enum Outcome {
 ///
 /// # Encoding
 /// A list of the fields, described by the code 0x34.
-// amqp: encoding = "list", code = 0x34, name = "amqp:transactional-state:list", rename_all = "kebab-case", no_one_pass
+// amqp: encoding = "list", code = 0x34, name = "amqp:transactional-state:list", rename_all = "kebab-case"
 #[derive(Debug, PartialEq, Drop)]
 pub struct TransactionalState {
     /// The transaction.
@@ -43,7 +43,7 @@ pub struct TransactionalState {
 ///
 /// # Encoding
 /// The composite of the variant.
-// amqp: encoding = "described", others, no_one_pass
+// amqp: encoding = "described", others
 #[derive(Debug, PartialEq, Drop)]
 pub enum DeliveryState {
     /// How much of a message has been received.
@@ -66,26 +66,60 @@ pub enum DeliveryState {
 
 // amqp: the impls below are written by tools/derive from the annotations above
 use serde_amqp::derive::{
-    Alternatives, Composite, Deserialize, DeserializeSeed, Deserializer, Either, FieldSeeds,
-    FieldValues, FromParts, Global, ListOf, ListSeed, Optional, Record, Required, RoundTrip,
-    RoundTripAlternatives, RoundTripComposite, Serialize, SerializeCompounds, Serializer, build,
-    fields, laws, named, read_alternatives, read_composite_type,
+    Composite, Either, Fault, Global, ListOf, OneOfTypes, Optional, PhantomData, Readable, Record,
+    Required, RoundTrip, RoundTripComposite, Serialize, SerializeCompounds, Serializer, Shape,
+    ShapeTree, Source, built, composite_returns, fields, named, parts_return, place, read_shaped,
 };
 
+/// What an [`Outcome`] is read from.
+type OutcomeTypes = Either<Accepted, Either<Rejected, Either<Released, OutcomeTypes2>>>;
+
+type OutcomeTypes2 = Either<Modified, Either<Declared, Unknown>>;
+
+type OutcomeShape = OneOfTypes<OutcomeTypes>;
+
 impl Record for Outcome {
-    ghost use Rattle.serde_amqp.specs.Derive.{This, Other};
+    ghost use Rattle.serde_amqp.specs.Derive.{first, second, third, fourth, fifth, rest5};
     ghost use Rattle.amqp_messaging.specs.declared.states.Outcome.TheVariants as variant;
 
-    type Values = Either<
-        Accepted,
-        Either<Rejected, Either<Released, Either<Modified, Either<Declared, Unknown>>>>,
-    >;
+    type Values = <OutcomeShape as Shape>::Value;
 
-    ghost parts = { λ x. elim x as (λ _. _) [ variant.Accepted v ↦ This v | variant.Rejected v ↦ Other (This v) | variant.Released v ↦ Other (Other (This v)) | variant.Modified v ↦ Other (Other (Other (This v))) | variant.Declared v ↦ Other (Other (Other (Other (This v)))) | variant.Other v ↦ Other (Other (Other (Other (Other v)))) ] };
+    ghost parts = { λ x. elim x as (λ _. _) [
+      | variant.Accepted v ↦ first v
+      | variant.Rejected v ↦ second v
+      | variant.Released v ↦ third v
+      | variant.Modified v ↦ fourth v
+      | variant.Declared v ↦ fifth v
+      | variant.Other v ↦ rest5 v
+    ] };
+
+    fn from_parts(values: <OutcomeShape as Shape>::Value) -> Outcome {
+        match values {
+            place!(0, value) => Outcome::Accepted(value),
+            place!(1, value) => Outcome::Rejected(value),
+            place!(2, value) => Outcome::Released(value),
+            place!(3, value) => Outcome::Modified(value),
+            place!(4, value) => Outcome::Declared(value),
+            place!(rest 5, value) => Outcome::Other(value),
+        }
+    }
+}
+
+impl Readable for Outcome {
+    ghost use Rattle.serde_amqp.specs.Derive.{by_parts};
+
+    ghost laws = { by_parts ⟦<OutcomeShape as Shape>⟧.laws ⟦<Outcome as Record>⟧.parts };
+
+    #[inline(always)]
+    fn read_value<S: Source>(alloc: Global, source: S) -> Result<(Outcome, S::Rest), Fault> {
+        read_shaped(alloc, source, OneOfTypes(PhantomData))
+    }
 }
 
 impl Serialize for Outcome {
-    ghost tree = { λ x. ⟦<Either<Accepted, Either<Rejected, Either<Released, Either<Modified, Either<Declared, Unknown>>>>> as RoundTripAlternatives>⟧.trees (⟦<Outcome as Record>⟧.parts x) };
+    ghost use Rattle.serde_amqp.specs.Derive.{tree_by_parts};
+
+    ghost tree = { tree_by_parts ⟦<OutcomeShape as ShapeTree>⟧.tree ⟦<Outcome as Record>⟧.parts };
 
     fn serialize<S: Serializer>(&self, serializer: &mut S) -> Result<S::Ok, S::Error> {
         match self {
@@ -99,181 +133,134 @@ impl Serialize for Outcome {
     }
 }
 
-impl Deserialize for Outcome {
-    ghost use Rattle.serde_amqp.specs.Derive.{code, described, OnAlternatives};
-
-    ghost reads = { λ t x. OnAlternatives ⟦<Either<Accepted, Either<Rejected, Either<Released, Either<Modified, Either<Declared, Unknown>>>>> as Alternatives>⟧.reads t (⟦<Outcome as Record>⟧.parts x) };
-
-    ghost image = { λ x. described (code (⟦<Either<Accepted, Either<Rejected, Either<Released, Either<Modified, Either<Declared, Unknown>>>>> as Alternatives>⟧.code_of (⟦<Outcome as Record>⟧.parts x))) (⟦<Either<Accepted, Either<Rejected, Either<Released, Either<Modified, Either<Declared, Unknown>>>>> as Alternatives>⟧.image (⟦<Outcome as Record>⟧.parts x)) };
-
-    ghost restorable = { λ x. ⟦<Either<Accepted, Either<Rejected, Either<Released, Either<Modified, Either<Declared, Unknown>>>>> as Alternatives>⟧.restorable (⟦<Outcome as Record>⟧.parts x) };
-
-    ghost same = { λ x y. ⟦<Either<Accepted, Either<Rejected, Either<Released, Either<Modified, Either<Declared, Unknown>>>>> as Alternatives>⟧.same (⟦<Outcome as Record>⟧.parts x) (⟦<Outcome as Record>⟧.parts y) };
-
-    fn deserialize<D: Deserializer>(alloc: Global, deserializer: D) -> Result<Outcome, D::Error> {
-        match read_alternatives::<Outcome, D>(alloc, deserializer)? {
-            Either::This(value) => Ok(Outcome::Accepted(value)),
-            Either::Other(Either::This(value)) => Ok(Outcome::Rejected(value)),
-            Either::Other(Either::Other(Either::This(value))) => Ok(Outcome::Released(value)),
-            Either::Other(Either::Other(Either::Other(Either::This(value)))) => Ok(
-                Outcome::Modified(value),
-            ),
-            Either::Other(Either::Other(Either::Other(Either::Other(Either::This(value))))) => Ok(
-                Outcome::Declared(value),
-            ),
-            Either::Other(Either::Other(Either::Other(Either::Other(Either::Other(value))))) => Ok(
-                Outcome::Other(value),
-            ),
-        }
-    }
-}
-
 impl RoundTrip for Outcome {
     fn law() {
-        laws::alternatives_return::<Outcome>();
+        parts_return::<Outcome, OutcomeShape>();
     }
 }
 
-impl Serialize for TransactionalState {
-    ghost use Rattle.std.specs.Prelude.{[], ◌∷◌};
-    ghost use Rattle.serde_amqp.specs.Derive.{code, short_composite, required_value, optional_value, of_binary};
-
-    ghost tree = { λ x. short_composite (code 0x34) (
-        required_value (of_binary x.txn_id)
-        ∷ optional_value ⟦<Outcome as Serialize>⟧.tree x.outcome
-        ∷ []) };
-
-    fn serialize<S: Serializer>(&self, serializer: &mut S) -> Result<S::Ok, S::Error> {
-        serializer.serialize_described(
-            &0x34u64,
-            &ListOf(fields! {
-                "txn-id": &self.txn_id,
-                "outcome"?: &self.outcome,
-            }),
-        )
-    }
-}
-
-/// The fields of [`TransactionalState`], as they are read.
+/// What a [`TransactionalState`] is read from.
 type TransactionalStateFields = Required<ByteBuf, Optional<Outcome, ()>>;
+
+type TransactionalStateShape = ListOf<TransactionalStateFields>;
 
 impl Record for TransactionalState {
     ghost use Rattle.serde_amqp.specs.Derive.{◌▸◌};
 
-    type Values = <TransactionalStateFields as FieldSeeds>::Values;
+    type Values = <TransactionalStateShape as Shape>::Value;
 
     ghost parts = { λ x. x.txn_id ▸ x.outcome ▸ tt };
-}
 
-impl FromParts for TransactionalState {
-    fn from_parts(parts: <TransactionalStateFields as FieldSeeds>::Values) -> TransactionalState {
-        let FieldValues {
-            value: txn_id,
-            rest,
-        } = parts;
-        let FieldValues {
-            value: outcome,
-            rest: (),
-        } = rest;
-        TransactionalState { txn_id, outcome }
+    fn from_parts(values: <TransactionalStateShape as Shape>::Value) -> TransactionalState {
+        built! { values => TransactionalState { txn_id, outcome } }
     }
 }
 
 impl Composite for TransactionalState {
     ghost use Rattle.std.specs.Prelude.{codes};
-    ghost use Rattle.serde_amqp.specs.Derive.{OnFields, ReadsRequired, ReadsOptional, NoMoreFields};
+    ghost use Rattle.serde_amqp.specs.Derive.{by_parts};
 
     ghost descriptor_code = { 0x34 };
 
     ghost descriptor_name = { codes "amqp:transactional-state:list" };
 
-    ghost reads = { λ t x. OnFields (
-        ReadsRequired (codes "txn-id") ⟦<ByteBuf as Deserialize>⟧.reads x.txn_id (
-        ReadsOptional (codes "outcome") ⟦<Outcome as Deserialize>⟧.reads x.outcome
-        NoMoreFields)) t };
+    ghost body = { by_parts ⟦<TransactionalStateShape as Shape>⟧.laws
+        ⟦<TransactionalState as Record>⟧.parts };
 
-    ghost image = { λ x. ⟦<ListSeed<TransactionalStateFields> as DeserializeSeed>⟧.short (⟦<TransactionalState as Record>⟧.parts x) };
-
-    ghost restorable = { λ x. ⟦<ListSeed<TransactionalStateFields> as DeserializeSeed>⟧.restorable (⟦<TransactionalState as Record>⟧.parts x) };
-
-    ghost same = { λ x y. ⟦<ListSeed<TransactionalStateFields> as DeserializeSeed>⟧.same (⟦<TransactionalState as Record>⟧.parts x) (⟦<TransactionalState as Record>⟧.parts y) };
-
-    fn code() -> u64 {
-        0x34
+    fn descriptor() -> (u64, &'static str) {
+        (0x34, "amqp:transactional-state:list")
     }
 
-    fn name() -> &'static str {
-        "amqp:transactional-state:list"
-    }
-
-    fn read_body<D: Deserializer>(
+    #[inline(always)]
+    fn read_body<S: Source>(
         alloc: Global,
-        deserializer: D,
-    ) -> Result<TransactionalState, D::Error> {
-        build::<TransactionalState, D, _>(
-            alloc,
-            deserializer,
-            ListSeed(named! { "txn-id", "outcome"? }),
-        )
+        source: S,
+    ) -> Result<(TransactionalState, S::Rest), Fault> {
+        let fields = named! { "txn-id", "outcome"? };
+        read_shaped(alloc, source, ListOf(fields))
     }
 }
 
-impl Deserialize for TransactionalState {
-    ghost use Rattle.std.specs.Prelude.{codes};
-    ghost use Rattle.serde_amqp.specs.Derive.{code, described, OnComposite};
+impl Serialize for TransactionalState {
+    ghost use Rattle.serde_amqp.specs.Derive.{after_code};
 
-    ghost reads = { λ t x. OnComposite 0x34 (codes "amqp:transactional-state:list") (λ u. ⟦<TransactionalState as Composite>⟧.reads u x) t };
+    ghost tree = { after_code 0x34 ⟦<TransactionalStateShape as ShapeTree>⟧.tree
+        ⟦<TransactionalState as Record>⟧.parts };
 
-    ghost image = { λ x. described (code 0x34) (⟦<TransactionalState as Composite>⟧.image x) };
-
-    ghost restorable = { ⟦<TransactionalState as Composite>⟧.restorable };
-
-    ghost same = { ⟦<TransactionalState as Composite>⟧.same };
-
-    fn deserialize<D: Deserializer>(
-        alloc: Global,
-        deserializer: D,
-    ) -> Result<TransactionalState, D::Error> {
-        read_composite_type::<TransactionalState, D>(alloc, deserializer)
+    fn serialize<S: Serializer>(&self, serializer: &mut S) -> Result<S::Ok, S::Error> {
+        serializer.serialize_described(
+            &0x34u64,
+            &ListOf(fields! { "txn-id": &self.txn_id, "outcome"?: &self.outcome }),
+        )
     }
 }
 
 impl RoundTripComposite for TransactionalState {
     fn composite_law() {
-        laws::short_fields_return::<TransactionalState, TransactionalStateFields>();
-        laws::described_return();
+        composite_returns::<TransactionalState, TransactionalStateShape>();
     }
 }
 
-impl RoundTrip for TransactionalState {
-    fn law() {
-        <TransactionalState as RoundTripComposite>::composite_law();
-    }
-}
+/// What a [`DeliveryState`] is read from.
+type DeliveryStateTypes = Either<Received, Either<Accepted, DeliveryStateTypes2>>;
+
+type DeliveryStateTypes2 = Either<Rejected, Either<Released, DeliveryStateTypes3>>;
+
+type DeliveryStateTypes3 = Either<Modified, Either<Declared, DeliveryStateTypes4>>;
+
+type DeliveryStateTypes4 = Either<TransactionalState, Unknown>;
+
+type DeliveryStateShape = OneOfTypes<DeliveryStateTypes>;
 
 impl Record for DeliveryState {
-    ghost use Rattle.serde_amqp.specs.Derive.{This, Other};
+    ghost use Rattle.serde_amqp.specs.Derive.{first, second, third, fourth, fifth, sixth, seventh};
+    ghost use Rattle.serde_amqp.specs.Derive.{rest7};
     ghost use Rattle.amqp_messaging.specs.declared.states.DeliveryState.TheVariants as variant;
 
-    type Values = Either<
-        Received,
-        Either<
-            Accepted,
-            Either<
-                Rejected,
-                Either<
-                    Released,
-                    Either<Modified, Either<Declared, Either<TransactionalState, Unknown>>>,
-                >,
-            >,
-        >,
-    >;
+    type Values = <DeliveryStateShape as Shape>::Value;
 
-    ghost parts = { λ x. elim x as (λ _. _) [ variant.Received v ↦ This v | variant.Accepted v ↦ Other (This v) | variant.Rejected v ↦ Other (Other (This v)) | variant.Released v ↦ Other (Other (Other (This v))) | variant.Modified v ↦ Other (Other (Other (Other (This v)))) | variant.Declared v ↦ Other (Other (Other (Other (Other (This v))))) | variant.TransactionalState v ↦ Other (Other (Other (Other (Other (Other (This v)))))) | variant.Other v ↦ Other (Other (Other (Other (Other (Other (Other v)))))) ] };
+    ghost parts = { λ x. elim x as (λ _. _) [
+      | variant.Received v ↦ first v
+      | variant.Accepted v ↦ second v
+      | variant.Rejected v ↦ third v
+      | variant.Released v ↦ fourth v
+      | variant.Modified v ↦ fifth v
+      | variant.Declared v ↦ sixth v
+      | variant.TransactionalState v ↦ seventh v
+      | variant.Other v ↦ rest7 v
+    ] };
+
+    fn from_parts(values: <DeliveryStateShape as Shape>::Value) -> DeliveryState {
+        match values {
+            place!(0, value) => DeliveryState::Received(value),
+            place!(1, value) => DeliveryState::Accepted(value),
+            place!(2, value) => DeliveryState::Rejected(value),
+            place!(3, value) => DeliveryState::Released(value),
+            place!(4, value) => DeliveryState::Modified(value),
+            place!(5, value) => DeliveryState::Declared(value),
+            place!(6, value) => DeliveryState::TransactionalState(value),
+            place!(rest 7, value) => DeliveryState::Other(value),
+        }
+    }
+}
+
+impl Readable for DeliveryState {
+    ghost use Rattle.serde_amqp.specs.Derive.{by_parts};
+
+    ghost laws = { by_parts ⟦<DeliveryStateShape as Shape>⟧.laws
+        ⟦<DeliveryState as Record>⟧.parts };
+
+    #[inline(always)]
+    fn read_value<S: Source>(alloc: Global, source: S) -> Result<(DeliveryState, S::Rest), Fault> {
+        read_shaped(alloc, source, OneOfTypes(PhantomData))
+    }
 }
 
 impl Serialize for DeliveryState {
-    ghost tree = { λ x. ⟦<Either<Received, Either<Accepted, Either<Rejected, Either<Released, Either<Modified, Either<Declared, Either<TransactionalState, Unknown>>>>>>> as RoundTripAlternatives>⟧.trees (⟦<DeliveryState as Record>⟧.parts x) };
+    ghost use Rattle.serde_amqp.specs.Derive.{tree_by_parts};
+
+    ghost tree = { tree_by_parts ⟦<DeliveryStateShape as ShapeTree>⟧.tree
+        ⟦<DeliveryState as Record>⟧.parts };
 
     fn serialize<S: Serializer>(&self, serializer: &mut S) -> Result<S::Ok, S::Error> {
         match self {
@@ -289,53 +276,9 @@ impl Serialize for DeliveryState {
     }
 }
 
-impl Deserialize for DeliveryState {
-    ghost use Rattle.serde_amqp.specs.Derive.{code, described, OnAlternatives};
-
-    ghost reads = { λ t x. OnAlternatives ⟦<Either<Received, Either<Accepted, Either<Rejected, Either<Released, Either<Modified, Either<Declared, Either<TransactionalState, Unknown>>>>>>> as Alternatives>⟧.reads t (⟦<DeliveryState as Record>⟧.parts x) };
-
-    ghost image = { λ x. described (code (⟦<Either<Received, Either<Accepted, Either<Rejected, Either<Released, Either<Modified, Either<Declared, Either<TransactionalState, Unknown>>>>>>> as Alternatives>⟧.code_of (⟦<DeliveryState as Record>⟧.parts x))) (⟦<Either<Received, Either<Accepted, Either<Rejected, Either<Released, Either<Modified, Either<Declared, Either<TransactionalState, Unknown>>>>>>> as Alternatives>⟧.image (⟦<DeliveryState as Record>⟧.parts x)) };
-
-    ghost restorable = { λ x. ⟦<Either<Received, Either<Accepted, Either<Rejected, Either<Released, Either<Modified, Either<Declared, Either<TransactionalState, Unknown>>>>>>> as Alternatives>⟧.restorable (⟦<DeliveryState as Record>⟧.parts x) };
-
-    ghost same = { λ x y. ⟦<Either<Received, Either<Accepted, Either<Rejected, Either<Released, Either<Modified, Either<Declared, Either<TransactionalState, Unknown>>>>>>> as Alternatives>⟧.same (⟦<DeliveryState as Record>⟧.parts x) (⟦<DeliveryState as Record>⟧.parts y) };
-
-    fn deserialize<D: Deserializer>(
-        alloc: Global,
-        deserializer: D,
-    ) -> Result<DeliveryState, D::Error> {
-        match read_alternatives::<DeliveryState, D>(alloc, deserializer)? {
-            Either::This(value) => Ok(DeliveryState::Received(value)),
-            Either::Other(Either::This(value)) => Ok(DeliveryState::Accepted(value)),
-            Either::Other(Either::Other(Either::This(value))) => Ok(DeliveryState::Rejected(value)),
-            Either::Other(Either::Other(Either::Other(Either::This(value)))) => Ok(
-                DeliveryState::Released(value),
-            ),
-            Either::Other(Either::Other(Either::Other(Either::Other(Either::This(value))))) => Ok(
-                DeliveryState::Modified(value),
-            ),
-            Either::Other(
-                Either::Other(Either::Other(Either::Other(Either::Other(Either::This(value))))),
-            ) => Ok(DeliveryState::Declared(value)),
-            Either::Other(
-                Either::Other(
-                    Either::Other(Either::Other(Either::Other(Either::Other(Either::This(value))))),
-                ),
-            ) => Ok(DeliveryState::TransactionalState(value)),
-            Either::Other(
-                Either::Other(
-                    Either::Other(
-                        Either::Other(Either::Other(Either::Other(Either::Other(value)))),
-                    ),
-                ),
-            ) => Ok(DeliveryState::Other(value)),
-        }
-    }
-}
-
 impl RoundTrip for DeliveryState {
     fn law() {
-        laws::alternatives_return::<DeliveryState>();
+        parts_return::<DeliveryState, DeliveryStateShape>();
     }
 }
 // amqp: end of the impls

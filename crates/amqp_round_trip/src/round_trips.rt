@@ -5,8 +5,7 @@ ghost use Rattle.amqp_data.specs.declared.error.Error.TheVariants.{OutOfMemory};
 ghost use Rattle.amqp_round_trip.specs.HasImage.{HasImage};
 
 use amqp_data::Error;
-use amqp_de::de::Deserialize;
-use amqp_from_value::from_value;
+use amqp_read::{Deserialize, from_value};
 use amqp_ser::Serialize;
 use amqp_to_value::to_value;
 use std::alloc::Global;
@@ -15,8 +14,9 @@ use std::alloc::Global;
 ///
 /// # Implementer notes
 /// `law` is required and does nothing. Its contract is the law: it relates what the type reads
-/// to what it writes. The body calls `law` of the type of each field or element, and the
-/// functions of `laws` for lists and described values.
+/// to what it writes. The body calls the function that states it for the shape of the type, such as
+/// [`parts_return`](crate::parts_return). Without a shape, it calls `law` of the type of each field
+/// or element, and the functions of `laws` for lists and described values.
 pub trait RoundTrip: Serialize + Deserialize {
     /// States that a restorable value has a tree, which contains nothing lazy, and that the tree's
     /// image is the image declared for the value.

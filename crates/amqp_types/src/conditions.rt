@@ -52,19 +52,17 @@ pub enum ConnectionCondition {
 
 // amqp: the impls below are written by tools/derive from the annotations above
 use serde_amqp::derive::{
-    Content, Deserialize, DeserializeError, Deserializer, GaveUp, Global, Name, RoundTrip,
-    Serialize, Serializer,
+    Fault, Global, Name, Readable, RoundTrip, Serialize, Serializer, Source, read_symbol,
 };
 
 impl AmqpCondition {
-    ghost use Rattle.std.specs.Prelude.{◌≡◌, List, ℕ, codes};
-    ghost use Rattle.std.specs.Prelude.{IfSome, IfNone};
+    ghost use Rattle.std.specs.Prelude.{◌≡◌, IfSome, IfNone};
+    ghost use Rattle.serde_amqp.specs.Derive.{scalar, symbol};
     ghost use Rattle.amqp_types.specs.declared.conditions.AmqpCondition.{AmqpCondition};
-    ghost use Rattle.amqp_types.specs.declared.conditions.AmqpCondition.TheVariants as variant;
 
     /// Returns the text of the value.
     pub fn as_str(&self) -> &'static str
-        ensures { result.now ≡ (elim self.now as (λ _. List ℕ) [ variant.InternalError ↦ codes "amqp:internal-error" | variant.NotFound ↦ codes "amqp:not-found" | variant.UnauthorizedAccess ↦ codes "amqp:unauthorized-access" | variant.DecodeError ↦ codes "amqp:decode-error" | variant.ResourceLimitExceeded ↦ codes "amqp:resource-limit-exceeded" | variant.NotAllowed ↦ codes "amqp:not-allowed" | variant.InvalidField ↦ codes "amqp:invalid-field" | variant.NotImplemented ↦ codes "amqp:not-implemented" | variant.ResourceLocked ↦ codes "amqp:resource-locked" | variant.PreconditionFailed ↦ codes "amqp:precondition-failed" | variant.ResourceDeleted ↦ codes "amqp:resource-deleted" | variant.IllegalState ↦ codes "amqp:illegal-state" | variant.FrameSizeTooSmall ↦ codes "amqp:frame-size-too-small" ]) }
+        ensures { scalar (symbol result.now) ≡ ⟦<AmqpCondition as Readable>⟧.laws.image self.now }
     {
         match self {
             AmqpCondition::InternalError => "amqp:internal-error",
@@ -85,8 +83,10 @@ impl AmqpCondition {
 
     /// Returns the value with this text, if there is one.
     pub fn from_text(text: &str) -> Option<AmqpCondition>
-        ensures some { IfSome result (λ x. text.now ≡ (elim x as (λ _. List ℕ) [ variant.InternalError ↦ codes "amqp:internal-error" | variant.NotFound ↦ codes "amqp:not-found" | variant.UnauthorizedAccess ↦ codes "amqp:unauthorized-access" | variant.DecodeError ↦ codes "amqp:decode-error" | variant.ResourceLimitExceeded ↦ codes "amqp:resource-limit-exceeded" | variant.NotAllowed ↦ codes "amqp:not-allowed" | variant.InvalidField ↦ codes "amqp:invalid-field" | variant.NotImplemented ↦ codes "amqp:not-implemented" | variant.ResourceLocked ↦ codes "amqp:resource-locked" | variant.PreconditionFailed ↦ codes "amqp:precondition-failed" | variant.ResourceDeleted ↦ codes "amqp:resource-deleted" | variant.IllegalState ↦ codes "amqp:illegal-state" | variant.FrameSizeTooSmall ↦ codes "amqp:frame-size-too-small" ])) }
-        ensures none { IfNone result ((x : AmqpCondition) → text.now ≡ (elim x as (λ _. List ℕ) [ variant.InternalError ↦ codes "amqp:internal-error" | variant.NotFound ↦ codes "amqp:not-found" | variant.UnauthorizedAccess ↦ codes "amqp:unauthorized-access" | variant.DecodeError ↦ codes "amqp:decode-error" | variant.ResourceLimitExceeded ↦ codes "amqp:resource-limit-exceeded" | variant.NotAllowed ↦ codes "amqp:not-allowed" | variant.InvalidField ↦ codes "amqp:invalid-field" | variant.NotImplemented ↦ codes "amqp:not-implemented" | variant.ResourceLocked ↦ codes "amqp:resource-locked" | variant.PreconditionFailed ↦ codes "amqp:precondition-failed" | variant.ResourceDeleted ↦ codes "amqp:resource-deleted" | variant.IllegalState ↦ codes "amqp:illegal-state" | variant.FrameSizeTooSmall ↦ codes "amqp:frame-size-too-small" ]) → ⊥) }
+        ensures some { IfSome result (λ x. scalar (symbol text.now) ≡
+            ⟦<AmqpCondition as Readable>⟧.laws.image x) }
+        ensures none { IfNone result ((x : AmqpCondition) → scalar (symbol text.now) ≡
+            ⟦<AmqpCondition as Readable>⟧.laws.image x → ⊥) }
     {
         if text == "amqp:internal-error" {
             return Some(AmqpCondition::InternalError);
@@ -131,59 +131,47 @@ impl AmqpCondition {
     }
 }
 
-impl Serialize for AmqpCondition {
-    ghost use Rattle.std.specs.Prelude.{Some, List, ℕ, codes};
-    ghost use Rattle.serde_amqp.specs.Derive.{scalar, symbol};
+impl Readable for AmqpCondition {
+    ghost use Rattle.std.specs.Prelude.{List, ℕ, codes};
+    ghost use Rattle.serde_amqp.specs.Derive.{by_text};
     ghost use Rattle.amqp_types.specs.declared.conditions.AmqpCondition.TheVariants as variant;
 
-    ghost tree = { λ x. Some (scalar (symbol (elim x as (λ _. List ℕ) [ variant.InternalError ↦ codes "amqp:internal-error" | variant.NotFound ↦ codes "amqp:not-found" | variant.UnauthorizedAccess ↦ codes "amqp:unauthorized-access" | variant.DecodeError ↦ codes "amqp:decode-error" | variant.ResourceLimitExceeded ↦ codes "amqp:resource-limit-exceeded" | variant.NotAllowed ↦ codes "amqp:not-allowed" | variant.InvalidField ↦ codes "amqp:invalid-field" | variant.NotImplemented ↦ codes "amqp:not-implemented" | variant.ResourceLocked ↦ codes "amqp:resource-locked" | variant.PreconditionFailed ↦ codes "amqp:precondition-failed" | variant.ResourceDeleted ↦ codes "amqp:resource-deleted" | variant.IllegalState ↦ codes "amqp:illegal-state" | variant.FrameSizeTooSmall ↦ codes "amqp:frame-size-too-small" ]))) };
+    ghost laws = { by_text (λ x. elim x as (λ _. List ℕ) [
+      | variant.InternalError ↦ codes "amqp:internal-error"
+      | variant.NotFound ↦ codes "amqp:not-found"
+      | variant.UnauthorizedAccess ↦ codes "amqp:unauthorized-access"
+      | variant.DecodeError ↦ codes "amqp:decode-error"
+      | variant.ResourceLimitExceeded ↦ codes "amqp:resource-limit-exceeded"
+      | variant.NotAllowed ↦ codes "amqp:not-allowed"
+      | variant.InvalidField ↦ codes "amqp:invalid-field"
+      | variant.NotImplemented ↦ codes "amqp:not-implemented"
+      | variant.ResourceLocked ↦ codes "amqp:resource-locked"
+      | variant.PreconditionFailed ↦ codes "amqp:precondition-failed"
+      | variant.ResourceDeleted ↦ codes "amqp:resource-deleted"
+      | variant.IllegalState ↦ codes "amqp:illegal-state"
+      | variant.FrameSizeTooSmall ↦ codes "amqp:frame-size-too-small"
+    ]) };
 
-    fn serialize<S: Serializer>(&self, serializer: &mut S) -> Result<S::Ok, S::Error> {
-        Name(self.as_str()).serialize(serializer)
+    fn read_value<S: Source>(alloc: Global, source: S) -> Result<(AmqpCondition, S::Rest), Fault> {
+        let (text, rest) = match read_symbol(alloc, source) {
+            Ok(read) => read,
+            Err(fault) => return Err(fault),
+        };
+        let text = text.as_inner().as_str();
+        match AmqpCondition::from_text(text) {
+            Some(value) => Ok((value, rest)),
+            None => Err(Fault::invalid()),
+        }
     }
 }
 
-impl Deserialize for AmqpCondition {
-    ghost use Rattle.std.specs.Prelude.{◌≡◌, List, ℕ, codes};
-    ghost use Rattle.serde_amqp.specs.Derive.{scalar, symbol, Always};
-    ghost use Rattle.amqp_types.specs.declared.conditions.AmqpCondition.TheVariants as variant;
+impl Serialize for AmqpCondition {
+    ghost use Rattle.std.specs.Prelude.{Some};
 
-    ghost reads = { λ t x. t ≡ scalar (symbol (elim x as (λ _. List ℕ) [ variant.InternalError ↦ codes "amqp:internal-error" | variant.NotFound ↦ codes "amqp:not-found" | variant.UnauthorizedAccess ↦ codes "amqp:unauthorized-access" | variant.DecodeError ↦ codes "amqp:decode-error" | variant.ResourceLimitExceeded ↦ codes "amqp:resource-limit-exceeded" | variant.NotAllowed ↦ codes "amqp:not-allowed" | variant.InvalidField ↦ codes "amqp:invalid-field" | variant.NotImplemented ↦ codes "amqp:not-implemented" | variant.ResourceLocked ↦ codes "amqp:resource-locked" | variant.PreconditionFailed ↦ codes "amqp:precondition-failed" | variant.ResourceDeleted ↦ codes "amqp:resource-deleted" | variant.IllegalState ↦ codes "amqp:illegal-state" | variant.FrameSizeTooSmall ↦ codes "amqp:frame-size-too-small" ])) };
+    ghost tree = { λ x. Some (⟦<AmqpCondition as Readable>⟧.laws.image x) };
 
-    ghost image = { λ x. scalar (symbol (elim x as (λ _. List ℕ) [ variant.InternalError ↦ codes "amqp:internal-error" | variant.NotFound ↦ codes "amqp:not-found" | variant.UnauthorizedAccess ↦ codes "amqp:unauthorized-access" | variant.DecodeError ↦ codes "amqp:decode-error" | variant.ResourceLimitExceeded ↦ codes "amqp:resource-limit-exceeded" | variant.NotAllowed ↦ codes "amqp:not-allowed" | variant.InvalidField ↦ codes "amqp:invalid-field" | variant.NotImplemented ↦ codes "amqp:not-implemented" | variant.ResourceLocked ↦ codes "amqp:resource-locked" | variant.PreconditionFailed ↦ codes "amqp:precondition-failed" | variant.ResourceDeleted ↦ codes "amqp:resource-deleted" | variant.IllegalState ↦ codes "amqp:illegal-state" | variant.FrameSizeTooSmall ↦ codes "amqp:frame-size-too-small" ])) };
-
-    ghost restorable = { Always };
-
-    ghost same = { λ x y. x ≡ y };
-
-    fn deserialize<D: Deserializer>(
-        _alloc: Global,
-        deserializer: D,
-    ) -> Result<AmqpCondition, D::Error> {
-        match deserializer.open() {
-            Content::Symbol(text) => {
-                match AmqpCondition::from_text(text.as_inner().as_str()) {
-                    Some(value) => Ok(value),
-                    None => Err(D::Error::invalid_value()),
-                }
-            }
-            _ => Err(D::Error::invalid_value()),
-        }
-    }
-
-    fn read_encoded(
-        alloc: Global,
-        code: u8,
-        input: &mut &[u8],
-        depth: u16,
-    ) -> Result<AmqpCondition, GaveUp> {
-        let text = <serde_amqp::primitives::Symbol as Deserialize>::read_encoded(
-            alloc, code, input, depth,
-        )?;
-        match AmqpCondition::from_text(text.as_inner().as_str()) {
-            Some(value) => Ok(value),
-            None => Err(GaveUp),
-        }
+    fn serialize<S: Serializer>(&self, serializer: &mut S) -> Result<S::Ok, S::Error> {
+        Name(self.as_str()).serialize(serializer)
     }
 }
 
@@ -192,12 +180,13 @@ impl RoundTrip for AmqpCondition {
 }
 
 impl ConnectionCondition {
-    ghost use Rattle.std.specs.Prelude.{◌≡◌, List, ℕ, codes};
-    ghost use Rattle.amqp_types.specs.declared.conditions.ConnectionCondition.TheVariants as variant;
+    ghost use Rattle.std.specs.Prelude.{◌≡◌};
+    ghost use Rattle.serde_amqp.specs.Derive.{scalar, symbol};
 
     /// Returns the text of the value.
     pub fn as_str(&self) -> &'static str
-        ensures { result.now ≡ (elim self.now as (λ _. List ℕ) [ variant.ConnectionForced ↦ codes "amqp:connection:forced" | variant.FramingError ↦ codes "amqp:connection:framing-error" | variant.Redirect ↦ codes "amqp:connection:redirect" ]) }
+        ensures { scalar (symbol result.now) ≡ ⟦<ConnectionCondition as Readable>⟧.laws.image
+            self.now }
     {
         match self {
             ConnectionCondition::ConnectionForced => "amqp:connection:forced",
@@ -207,73 +196,46 @@ impl ConnectionCondition {
     }
 }
 
-impl Serialize for ConnectionCondition {
-    ghost use Rattle.std.specs.Prelude.{Some, List, ℕ, codes};
-    ghost use Rattle.serde_amqp.specs.Derive.{scalar, symbol};
+impl Readable for ConnectionCondition {
+    ghost use Rattle.std.specs.Prelude.{List, ℕ, codes};
+    ghost use Rattle.serde_amqp.specs.Derive.{by_text};
     ghost use Rattle.amqp_types.specs.declared.conditions.ConnectionCondition.TheVariants as variant;
 
-    ghost tree = { λ x. Some (scalar (symbol (elim x as (λ _. List ℕ) [ variant.ConnectionForced ↦ codes "amqp:connection:forced" | variant.FramingError ↦ codes "amqp:connection:framing-error" | variant.Redirect ↦ codes "amqp:connection:redirect" ]))) };
+    ghost laws = { by_text (λ x. elim x as (λ _. List ℕ) [
+      | variant.ConnectionForced ↦ codes "amqp:connection:forced"
+      | variant.FramingError ↦ codes "amqp:connection:framing-error"
+      | variant.Redirect ↦ codes "amqp:connection:redirect"
+    ]) };
 
-    fn serialize<S: Serializer>(&self, serializer: &mut S) -> Result<S::Ok, S::Error> {
-        Name(self.as_str()).serialize(serializer)
+    fn read_value<S: Source>(
+        alloc: Global,
+        source: S,
+    ) -> Result<(ConnectionCondition, S::Rest), Fault> {
+        let (text, rest) = match read_symbol(alloc, source) {
+            Ok(read) => read,
+            Err(fault) => return Err(fault),
+        };
+        let text = text.as_inner().as_str();
+        if text == "amqp:connection:forced" {
+            return Ok((ConnectionCondition::ConnectionForced, rest));
+        }
+        if text == "amqp:connection:framing-error" {
+            return Ok((ConnectionCondition::FramingError, rest));
+        }
+        if text == "amqp:connection:redirect" {
+            return Ok((ConnectionCondition::Redirect, rest));
+        }
+        Err(Fault::invalid())
     }
 }
 
-impl Deserialize for ConnectionCondition {
-    ghost use Rattle.std.specs.Prelude.{◌≡◌, List, ℕ, codes};
-    ghost use Rattle.serde_amqp.specs.Derive.{scalar, symbol, Always};
-    ghost use Rattle.amqp_types.specs.declared.conditions.ConnectionCondition.TheVariants as variant;
+impl Serialize for ConnectionCondition {
+    ghost use Rattle.std.specs.Prelude.{Some};
 
-    ghost reads = { λ t x. t ≡ scalar (symbol (elim x as (λ _. List ℕ) [ variant.ConnectionForced ↦ codes "amqp:connection:forced" | variant.FramingError ↦ codes "amqp:connection:framing-error" | variant.Redirect ↦ codes "amqp:connection:redirect" ])) };
+    ghost tree = { λ x. Some (⟦<ConnectionCondition as Readable>⟧.laws.image x) };
 
-    ghost image = { λ x. scalar (symbol (elim x as (λ _. List ℕ) [ variant.ConnectionForced ↦ codes "amqp:connection:forced" | variant.FramingError ↦ codes "amqp:connection:framing-error" | variant.Redirect ↦ codes "amqp:connection:redirect" ])) };
-
-    ghost restorable = { Always };
-
-    ghost same = { λ x y. x ≡ y };
-
-    fn deserialize<D: Deserializer>(
-        _alloc: Global,
-        deserializer: D,
-    ) -> Result<ConnectionCondition, D::Error> {
-        match deserializer.open() {
-            Content::Symbol(text) => {
-                let text = text.as_inner().as_str();
-                if text == "amqp:connection:forced" {
-                    return Ok(ConnectionCondition::ConnectionForced);
-                }
-                if text == "amqp:connection:framing-error" {
-                    return Ok(ConnectionCondition::FramingError);
-                }
-                if text == "amqp:connection:redirect" {
-                    return Ok(ConnectionCondition::Redirect);
-                }
-                Err(D::Error::invalid_value())
-            }
-            _ => Err(D::Error::invalid_value()),
-        }
-    }
-
-    fn read_encoded(
-        alloc: Global,
-        code: u8,
-        input: &mut &[u8],
-        depth: u16,
-    ) -> Result<ConnectionCondition, GaveUp> {
-        let text = <serde_amqp::primitives::Symbol as Deserialize>::read_encoded(
-            alloc, code, input, depth,
-        )?;
-        let text = text.as_inner().as_str();
-        if text == "amqp:connection:forced" {
-            return Ok(ConnectionCondition::ConnectionForced);
-        }
-        if text == "amqp:connection:framing-error" {
-            return Ok(ConnectionCondition::FramingError);
-        }
-        if text == "amqp:connection:redirect" {
-            return Ok(ConnectionCondition::Redirect);
-        }
-        Err(GaveUp)
+    fn serialize<S: Serializer>(&self, serializer: &mut S) -> Result<S::Ok, S::Error> {
+        Name(self.as_str()).serialize(serializer)
     }
 }
 

@@ -7,7 +7,7 @@ use serde_amqp::primitives::{Multiple, Symbol};
 ///
 /// # Encoding
 /// A list of the fields, described by the code 0x30.
-// amqp: encoding = "list", code = 0x30, name = "amqp:coordinator:list", rename_all = "kebab-case", no_one_pass
+// amqp: encoding = "list", code = 0x30, name = "amqp:coordinator:list", rename_all = "kebab-case"
 #[derive(Debug, PartialEq, Drop)]
 pub struct Coordinator {
     /// What the coordinator supports, such as values of `TxnCapability`.
@@ -37,7 +37,7 @@ pub enum TxnCapability {
 ///
 /// # Encoding
 /// The composite of the variant.
-// amqp: encoding = "described", no_one_pass
+// amqp: encoding = "described"
 #[derive(Debug, PartialEq, Drop)]
 pub enum AnyTarget {
     /// Where the messages of a link go to.
@@ -48,123 +48,77 @@ pub enum AnyTarget {
 
 // amqp: the impls below are written by tools/derive from the annotations above
 use serde_amqp::derive::{
-    Alternatives, Composite, Content, Deserialize, DeserializeError, DeserializeSeed, Deserializer,
-    Either, FieldSeeds, FieldValues, FromParts, GaveUp, Global, ListOf, ListSeed, Name, Never,
-    Optional, Record, RoundTrip, RoundTripAlternatives, RoundTripComposite, Serialize,
-    SerializeCompounds, Serializer, build, fields, laws, named, read_alternatives,
-    read_composite_type,
+    Composite, Either, Fault, Global, ListOf, Name, Never, OneOfTypes, Optional, PhantomData,
+    Readable, Record, RoundTrip, RoundTripComposite, Serialize, SerializeCompounds, Serializer,
+    Shape, ShapeTree, Source, built, composite_returns, fields, named, parts_return, place,
+    read_shaped, read_symbol,
 };
 
-impl Serialize for Coordinator {
-    ghost use Rattle.std.specs.Prelude.{[], ◌∷◌};
-    ghost use Rattle.serde_amqp.specs.Derive.{code, short_composite, optional_value};
-
-    ghost tree = { λ x. short_composite (code 0x30) (
-        optional_value ⟦<Multiple<Symbol> as Serialize>⟧.tree x.capabilities
-        ∷ []) };
-
-    fn serialize<S: Serializer>(&self, serializer: &mut S) -> Result<S::Ok, S::Error> {
-        serializer.serialize_described(
-            &0x30u64,
-            &ListOf(fields! {
-                "capabilities"?: &self.capabilities,
-            }),
-        )
-    }
-}
-
-/// The fields of [`Coordinator`], as they are read.
+/// What a [`Coordinator`] is read from.
 type CoordinatorFields = Optional<Multiple<Symbol>, ()>;
+
+type CoordinatorShape = ListOf<CoordinatorFields>;
 
 impl Record for Coordinator {
     ghost use Rattle.serde_amqp.specs.Derive.{◌▸◌};
 
-    type Values = <CoordinatorFields as FieldSeeds>::Values;
+    type Values = <CoordinatorShape as Shape>::Value;
 
     ghost parts = { λ x. x.capabilities ▸ tt };
-}
 
-impl FromParts for Coordinator {
-    fn from_parts(parts: <CoordinatorFields as FieldSeeds>::Values) -> Coordinator {
-        let FieldValues {
-            value: capabilities,
-            rest: (),
-        } = parts;
-        Coordinator { capabilities }
+    fn from_parts(values: <CoordinatorShape as Shape>::Value) -> Coordinator {
+        built! { values => Coordinator { capabilities } }
     }
 }
 
 impl Composite for Coordinator {
     ghost use Rattle.std.specs.Prelude.{codes};
-    ghost use Rattle.serde_amqp.specs.Derive.{OnFields, ReadsOptional, NoMoreFields};
+    ghost use Rattle.serde_amqp.specs.Derive.{by_parts};
 
     ghost descriptor_code = { 0x30 };
 
     ghost descriptor_name = { codes "amqp:coordinator:list" };
 
-    ghost reads = { λ t x. OnFields (
-        ReadsOptional (codes "capabilities") ⟦<Multiple<Symbol> as Deserialize>⟧.reads x.capabilities
-        NoMoreFields) t };
+    ghost body = { by_parts ⟦<CoordinatorShape as Shape>⟧.laws ⟦<Coordinator as Record>⟧.parts };
 
-    ghost image = { λ x. ⟦<ListSeed<CoordinatorFields> as DeserializeSeed>⟧.short (⟦<Coordinator as Record>⟧.parts x) };
-
-    ghost restorable = { λ x. ⟦<ListSeed<CoordinatorFields> as DeserializeSeed>⟧.restorable (⟦<Coordinator as Record>⟧.parts x) };
-
-    ghost same = { λ x y. ⟦<ListSeed<CoordinatorFields> as DeserializeSeed>⟧.same (⟦<Coordinator as Record>⟧.parts x) (⟦<Coordinator as Record>⟧.parts y) };
-
-    fn code() -> u64 {
-        0x30
+    fn descriptor() -> (u64, &'static str) {
+        (0x30, "amqp:coordinator:list")
     }
 
-    fn name() -> &'static str {
-        "amqp:coordinator:list"
-    }
-
-    fn read_body<D: Deserializer>(alloc: Global, deserializer: D) -> Result<Coordinator, D::Error> {
-        build::<Coordinator, D, _>(alloc, deserializer, ListSeed(named! { "capabilities"? }))
+    #[inline(always)]
+    fn read_body<S: Source>(alloc: Global, source: S) -> Result<(Coordinator, S::Rest), Fault> {
+        let fields = named! { "capabilities"? };
+        read_shaped(alloc, source, ListOf(fields))
     }
 }
 
-impl Deserialize for Coordinator {
-    ghost use Rattle.std.specs.Prelude.{codes};
-    ghost use Rattle.serde_amqp.specs.Derive.{code, described, OnComposite};
+impl Serialize for Coordinator {
+    ghost use Rattle.serde_amqp.specs.Derive.{after_code};
 
-    ghost reads = { λ t x. OnComposite 0x30 (codes "amqp:coordinator:list") (λ u. ⟦<Coordinator as Composite>⟧.reads u x) t };
+    ghost tree = { after_code 0x30 ⟦<CoordinatorShape as ShapeTree>⟧.tree
+        ⟦<Coordinator as Record>⟧.parts };
 
-    ghost image = { λ x. described (code 0x30) (⟦<Coordinator as Composite>⟧.image x) };
-
-    ghost restorable = { ⟦<Coordinator as Composite>⟧.restorable };
-
-    ghost same = { ⟦<Coordinator as Composite>⟧.same };
-
-    fn deserialize<D: Deserializer>(
-        alloc: Global,
-        deserializer: D,
-    ) -> Result<Coordinator, D::Error> {
-        read_composite_type::<Coordinator, D>(alloc, deserializer)
+    fn serialize<S: Serializer>(&self, serializer: &mut S) -> Result<S::Ok, S::Error> {
+        serializer.serialize_described(
+            &0x30u64,
+            &ListOf(fields! { "capabilities"?: &self.capabilities }),
+        )
     }
 }
 
 impl RoundTripComposite for Coordinator {
     fn composite_law() {
-        laws::short_fields_return::<Coordinator, CoordinatorFields>();
-        laws::described_return();
-    }
-}
-
-impl RoundTrip for Coordinator {
-    fn law() {
-        <Coordinator as RoundTripComposite>::composite_law();
+        composite_returns::<Coordinator, CoordinatorShape>();
     }
 }
 
 impl TxnCapability {
-    ghost use Rattle.std.specs.Prelude.{◌≡◌, List, ℕ, codes};
-    ghost use Rattle.amqp_types.specs.declared.coordinator.TxnCapability.TheVariants as variant;
+    ghost use Rattle.std.specs.Prelude.{◌≡◌};
+    ghost use Rattle.serde_amqp.specs.Derive.{scalar, symbol};
 
     /// Returns the text of the value.
     pub fn as_str(&self) -> &'static str
-        ensures { result.now ≡ (elim self.now as (λ _. List ℕ) [ variant.LocalTransactions ↦ codes "amqp:local-transactions" | variant.DistributedTransactions ↦ codes "amqp:distributed-transactions" | variant.PromotableTransactions ↦ codes "amqp:promotable-transactions" | variant.MultiTxnsPerSsn ↦ codes "amqp:multi-txns-per-ssn" | variant.MultiSsnsPerTxn ↦ codes "amqp:multi-ssns-per-txn" ]) }
+        ensures { scalar (symbol result.now) ≡ ⟦<TxnCapability as Readable>⟧.laws.image self.now }
     {
         match self {
             TxnCapability::LocalTransactions => "amqp:local-transactions",
@@ -176,85 +130,51 @@ impl TxnCapability {
     }
 }
 
-impl Serialize for TxnCapability {
-    ghost use Rattle.std.specs.Prelude.{Some, List, ℕ, codes};
-    ghost use Rattle.serde_amqp.specs.Derive.{scalar, symbol};
+impl Readable for TxnCapability {
+    ghost use Rattle.std.specs.Prelude.{List, ℕ, codes};
+    ghost use Rattle.serde_amqp.specs.Derive.{by_text};
     ghost use Rattle.amqp_types.specs.declared.coordinator.TxnCapability.TheVariants as variant;
 
-    ghost tree = { λ x. Some (scalar (symbol (elim x as (λ _. List ℕ) [ variant.LocalTransactions ↦ codes "amqp:local-transactions" | variant.DistributedTransactions ↦ codes "amqp:distributed-transactions" | variant.PromotableTransactions ↦ codes "amqp:promotable-transactions" | variant.MultiTxnsPerSsn ↦ codes "amqp:multi-txns-per-ssn" | variant.MultiSsnsPerTxn ↦ codes "amqp:multi-ssns-per-txn" ]))) };
+    ghost laws = { by_text (λ x. elim x as (λ _. List ℕ) [
+      | variant.LocalTransactions ↦ codes "amqp:local-transactions"
+      | variant.DistributedTransactions ↦ codes "amqp:distributed-transactions"
+      | variant.PromotableTransactions ↦ codes "amqp:promotable-transactions"
+      | variant.MultiTxnsPerSsn ↦ codes "amqp:multi-txns-per-ssn"
+      | variant.MultiSsnsPerTxn ↦ codes "amqp:multi-ssns-per-txn"
+    ]) };
 
-    fn serialize<S: Serializer>(&self, serializer: &mut S) -> Result<S::Ok, S::Error> {
-        Name(self.as_str()).serialize(serializer)
+    fn read_value<S: Source>(alloc: Global, source: S) -> Result<(TxnCapability, S::Rest), Fault> {
+        let (text, rest) = match read_symbol(alloc, source) {
+            Ok(read) => read,
+            Err(fault) => return Err(fault),
+        };
+        let text = text.as_inner().as_str();
+        if text == "amqp:local-transactions" {
+            return Ok((TxnCapability::LocalTransactions, rest));
+        }
+        if text == "amqp:distributed-transactions" {
+            return Ok((TxnCapability::DistributedTransactions, rest));
+        }
+        if text == "amqp:promotable-transactions" {
+            return Ok((TxnCapability::PromotableTransactions, rest));
+        }
+        if text == "amqp:multi-txns-per-ssn" {
+            return Ok((TxnCapability::MultiTxnsPerSsn, rest));
+        }
+        if text == "amqp:multi-ssns-per-txn" {
+            return Ok((TxnCapability::MultiSsnsPerTxn, rest));
+        }
+        Err(Fault::invalid())
     }
 }
 
-impl Deserialize for TxnCapability {
-    ghost use Rattle.std.specs.Prelude.{◌≡◌, List, ℕ, codes};
-    ghost use Rattle.serde_amqp.specs.Derive.{scalar, symbol, Always};
-    ghost use Rattle.amqp_types.specs.declared.coordinator.TxnCapability.TheVariants as variant;
+impl Serialize for TxnCapability {
+    ghost use Rattle.std.specs.Prelude.{Some};
 
-    ghost reads = { λ t x. t ≡ scalar (symbol (elim x as (λ _. List ℕ) [ variant.LocalTransactions ↦ codes "amqp:local-transactions" | variant.DistributedTransactions ↦ codes "amqp:distributed-transactions" | variant.PromotableTransactions ↦ codes "amqp:promotable-transactions" | variant.MultiTxnsPerSsn ↦ codes "amqp:multi-txns-per-ssn" | variant.MultiSsnsPerTxn ↦ codes "amqp:multi-ssns-per-txn" ])) };
+    ghost tree = { λ x. Some (⟦<TxnCapability as Readable>⟧.laws.image x) };
 
-    ghost image = { λ x. scalar (symbol (elim x as (λ _. List ℕ) [ variant.LocalTransactions ↦ codes "amqp:local-transactions" | variant.DistributedTransactions ↦ codes "amqp:distributed-transactions" | variant.PromotableTransactions ↦ codes "amqp:promotable-transactions" | variant.MultiTxnsPerSsn ↦ codes "amqp:multi-txns-per-ssn" | variant.MultiSsnsPerTxn ↦ codes "amqp:multi-ssns-per-txn" ])) };
-
-    ghost restorable = { Always };
-
-    ghost same = { λ x y. x ≡ y };
-
-    fn deserialize<D: Deserializer>(
-        _alloc: Global,
-        deserializer: D,
-    ) -> Result<TxnCapability, D::Error> {
-        match deserializer.open() {
-            Content::Symbol(text) => {
-                let text = text.as_inner().as_str();
-                if text == "amqp:local-transactions" {
-                    return Ok(TxnCapability::LocalTransactions);
-                }
-                if text == "amqp:distributed-transactions" {
-                    return Ok(TxnCapability::DistributedTransactions);
-                }
-                if text == "amqp:promotable-transactions" {
-                    return Ok(TxnCapability::PromotableTransactions);
-                }
-                if text == "amqp:multi-txns-per-ssn" {
-                    return Ok(TxnCapability::MultiTxnsPerSsn);
-                }
-                if text == "amqp:multi-ssns-per-txn" {
-                    return Ok(TxnCapability::MultiSsnsPerTxn);
-                }
-                Err(D::Error::invalid_value())
-            }
-            _ => Err(D::Error::invalid_value()),
-        }
-    }
-
-    fn read_encoded(
-        alloc: Global,
-        code: u8,
-        input: &mut &[u8],
-        depth: u16,
-    ) -> Result<TxnCapability, GaveUp> {
-        let text = <serde_amqp::primitives::Symbol as Deserialize>::read_encoded(
-            alloc, code, input, depth,
-        )?;
-        let text = text.as_inner().as_str();
-        if text == "amqp:local-transactions" {
-            return Ok(TxnCapability::LocalTransactions);
-        }
-        if text == "amqp:distributed-transactions" {
-            return Ok(TxnCapability::DistributedTransactions);
-        }
-        if text == "amqp:promotable-transactions" {
-            return Ok(TxnCapability::PromotableTransactions);
-        }
-        if text == "amqp:multi-txns-per-ssn" {
-            return Ok(TxnCapability::MultiTxnsPerSsn);
-        }
-        if text == "amqp:multi-ssns-per-txn" {
-            return Ok(TxnCapability::MultiSsnsPerTxn);
-        }
-        Err(GaveUp)
+    fn serialize<S: Serializer>(&self, serializer: &mut S) -> Result<S::Ok, S::Error> {
+        Name(self.as_str()).serialize(serializer)
     }
 }
 
@@ -262,17 +182,47 @@ impl RoundTrip for TxnCapability {
     fn law() {}
 }
 
+/// What an [`AnyTarget`] is read from.
+type AnyTargetTypes = Either<Target, Either<Coordinator, Never>>;
+
+type AnyTargetShape = OneOfTypes<AnyTargetTypes>;
+
 impl Record for AnyTarget {
-    ghost use Rattle.serde_amqp.specs.Derive.{This, Other};
+    ghost use Rattle.serde_amqp.specs.Derive.{first, second};
     ghost use Rattle.amqp_types.specs.declared.coordinator.AnyTarget.TheVariants as variant;
 
-    type Values = Either<Target, Either<Coordinator, Never>>;
+    type Values = <AnyTargetShape as Shape>::Value;
 
-    ghost parts = { λ x. elim x as (λ _. _) [ variant.Target v ↦ This v | variant.Coordinator v ↦ Other (This v) ] };
+    ghost parts = { λ x. elim x as (λ _. _) [
+      | variant.Target v ↦ first v
+      | variant.Coordinator v ↦ second v
+    ] };
+
+    fn from_parts(values: <AnyTargetShape as Shape>::Value) -> AnyTarget {
+        match values {
+            place!(0, value) => AnyTarget::Target(value),
+            place!(1, value) => AnyTarget::Coordinator(value),
+            place!(rest 2, never) => match never {},
+        }
+    }
+}
+
+impl Readable for AnyTarget {
+    ghost use Rattle.serde_amqp.specs.Derive.{by_parts};
+
+    ghost laws = { by_parts ⟦<AnyTargetShape as Shape>⟧.laws ⟦<AnyTarget as Record>⟧.parts };
+
+    #[inline(always)]
+    fn read_value<S: Source>(alloc: Global, source: S) -> Result<(AnyTarget, S::Rest), Fault> {
+        read_shaped(alloc, source, OneOfTypes(PhantomData))
+    }
 }
 
 impl Serialize for AnyTarget {
-    ghost tree = { λ x. ⟦<Either<Target, Either<Coordinator, Never>> as RoundTripAlternatives>⟧.trees (⟦<AnyTarget as Record>⟧.parts x) };
+    ghost use Rattle.serde_amqp.specs.Derive.{tree_by_parts};
+
+    ghost tree = { tree_by_parts ⟦<AnyTargetShape as ShapeTree>⟧.tree
+        ⟦<AnyTarget as Record>⟧.parts };
 
     fn serialize<S: Serializer>(&self, serializer: &mut S) -> Result<S::Ok, S::Error> {
         match self {
@@ -282,29 +232,9 @@ impl Serialize for AnyTarget {
     }
 }
 
-impl Deserialize for AnyTarget {
-    ghost use Rattle.serde_amqp.specs.Derive.{code, described, OnAlternatives};
-
-    ghost reads = { λ t x. OnAlternatives ⟦<Either<Target, Either<Coordinator, Never>> as Alternatives>⟧.reads t (⟦<AnyTarget as Record>⟧.parts x) };
-
-    ghost image = { λ x. described (code (⟦<Either<Target, Either<Coordinator, Never>> as Alternatives>⟧.code_of (⟦<AnyTarget as Record>⟧.parts x))) (⟦<Either<Target, Either<Coordinator, Never>> as Alternatives>⟧.image (⟦<AnyTarget as Record>⟧.parts x)) };
-
-    ghost restorable = { λ x. ⟦<Either<Target, Either<Coordinator, Never>> as Alternatives>⟧.restorable (⟦<AnyTarget as Record>⟧.parts x) };
-
-    ghost same = { λ x y. ⟦<Either<Target, Either<Coordinator, Never>> as Alternatives>⟧.same (⟦<AnyTarget as Record>⟧.parts x) (⟦<AnyTarget as Record>⟧.parts y) };
-
-    fn deserialize<D: Deserializer>(alloc: Global, deserializer: D) -> Result<AnyTarget, D::Error> {
-        match read_alternatives::<AnyTarget, D>(alloc, deserializer)? {
-            Either::This(value) => Ok(AnyTarget::Target(value)),
-            Either::Other(Either::This(value)) => Ok(AnyTarget::Coordinator(value)),
-            Either::Other(Either::Other(never)) => match never {},
-        }
-    }
-}
-
 impl RoundTrip for AnyTarget {
     fn law() {
-        laws::alternatives_return::<AnyTarget>();
+        parts_return::<AnyTarget, AnyTargetShape>();
     }
 }
 // amqp: end of the impls

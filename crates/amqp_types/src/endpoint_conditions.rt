@@ -53,17 +53,16 @@ pub enum TransactionCondition {
 
 // amqp: the impls below are written by tools/derive from the annotations above
 use serde_amqp::derive::{
-    Content, Deserialize, DeserializeError, Deserializer, GaveUp, Global, Name, RoundTrip,
-    Serialize, Serializer,
+    Fault, Global, Name, Readable, RoundTrip, Serialize, Serializer, Source, read_symbol,
 };
 
 impl SessionCondition {
-    ghost use Rattle.std.specs.Prelude.{◌≡◌, List, ℕ, codes};
-    ghost use Rattle.amqp_types.specs.declared.endpoint_conditions.SessionCondition.TheVariants as variant;
+    ghost use Rattle.std.specs.Prelude.{◌≡◌};
+    ghost use Rattle.serde_amqp.specs.Derive.{scalar, symbol};
 
     /// Returns the text of the value.
     pub fn as_str(&self) -> &'static str
-        ensures { result.now ≡ (elim self.now as (λ _. List ℕ) [ variant.WindowViolation ↦ codes "amqp:session:window-violation" | variant.ErrantLink ↦ codes "amqp:session:errant-link" | variant.HandleInUse ↦ codes "amqp:session:handle-in-use" | variant.UnattachedHandle ↦ codes "amqp:session:unattached-handle" ]) }
+        ensures { scalar (symbol result.now) ≡ ⟦<SessionCondition as Readable>⟧.laws.image self.now }
     {
         match self {
             SessionCondition::WindowViolation => "amqp:session:window-violation",
@@ -74,79 +73,50 @@ impl SessionCondition {
     }
 }
 
-impl Serialize for SessionCondition {
-    ghost use Rattle.std.specs.Prelude.{Some, List, ℕ, codes};
-    ghost use Rattle.serde_amqp.specs.Derive.{scalar, symbol};
+impl Readable for SessionCondition {
+    ghost use Rattle.std.specs.Prelude.{List, ℕ, codes};
+    ghost use Rattle.serde_amqp.specs.Derive.{by_text};
     ghost use Rattle.amqp_types.specs.declared.endpoint_conditions.SessionCondition.TheVariants as variant;
 
-    ghost tree = { λ x. Some (scalar (symbol (elim x as (λ _. List ℕ) [ variant.WindowViolation ↦ codes "amqp:session:window-violation" | variant.ErrantLink ↦ codes "amqp:session:errant-link" | variant.HandleInUse ↦ codes "amqp:session:handle-in-use" | variant.UnattachedHandle ↦ codes "amqp:session:unattached-handle" ]))) };
+    ghost laws = { by_text (λ x. elim x as (λ _. List ℕ) [
+      | variant.WindowViolation ↦ codes "amqp:session:window-violation"
+      | variant.ErrantLink ↦ codes "amqp:session:errant-link"
+      | variant.HandleInUse ↦ codes "amqp:session:handle-in-use"
+      | variant.UnattachedHandle ↦ codes "amqp:session:unattached-handle"
+    ]) };
 
-    fn serialize<S: Serializer>(&self, serializer: &mut S) -> Result<S::Ok, S::Error> {
-        Name(self.as_str()).serialize(serializer)
+    fn read_value<S: Source>(
+        alloc: Global,
+        source: S,
+    ) -> Result<(SessionCondition, S::Rest), Fault> {
+        let (text, rest) = match read_symbol(alloc, source) {
+            Ok(read) => read,
+            Err(fault) => return Err(fault),
+        };
+        let text = text.as_inner().as_str();
+        if text == "amqp:session:window-violation" {
+            return Ok((SessionCondition::WindowViolation, rest));
+        }
+        if text == "amqp:session:errant-link" {
+            return Ok((SessionCondition::ErrantLink, rest));
+        }
+        if text == "amqp:session:handle-in-use" {
+            return Ok((SessionCondition::HandleInUse, rest));
+        }
+        if text == "amqp:session:unattached-handle" {
+            return Ok((SessionCondition::UnattachedHandle, rest));
+        }
+        Err(Fault::invalid())
     }
 }
 
-impl Deserialize for SessionCondition {
-    ghost use Rattle.std.specs.Prelude.{◌≡◌, List, ℕ, codes};
-    ghost use Rattle.serde_amqp.specs.Derive.{scalar, symbol, Always};
-    ghost use Rattle.amqp_types.specs.declared.endpoint_conditions.SessionCondition.TheVariants as variant;
+impl Serialize for SessionCondition {
+    ghost use Rattle.std.specs.Prelude.{Some};
 
-    ghost reads = { λ t x. t ≡ scalar (symbol (elim x as (λ _. List ℕ) [ variant.WindowViolation ↦ codes "amqp:session:window-violation" | variant.ErrantLink ↦ codes "amqp:session:errant-link" | variant.HandleInUse ↦ codes "amqp:session:handle-in-use" | variant.UnattachedHandle ↦ codes "amqp:session:unattached-handle" ])) };
+    ghost tree = { λ x. Some (⟦<SessionCondition as Readable>⟧.laws.image x) };
 
-    ghost image = { λ x. scalar (symbol (elim x as (λ _. List ℕ) [ variant.WindowViolation ↦ codes "amqp:session:window-violation" | variant.ErrantLink ↦ codes "amqp:session:errant-link" | variant.HandleInUse ↦ codes "amqp:session:handle-in-use" | variant.UnattachedHandle ↦ codes "amqp:session:unattached-handle" ])) };
-
-    ghost restorable = { Always };
-
-    ghost same = { λ x y. x ≡ y };
-
-    fn deserialize<D: Deserializer>(
-        _alloc: Global,
-        deserializer: D,
-    ) -> Result<SessionCondition, D::Error> {
-        match deserializer.open() {
-            Content::Symbol(text) => {
-                let text = text.as_inner().as_str();
-                if text == "amqp:session:window-violation" {
-                    return Ok(SessionCondition::WindowViolation);
-                }
-                if text == "amqp:session:errant-link" {
-                    return Ok(SessionCondition::ErrantLink);
-                }
-                if text == "amqp:session:handle-in-use" {
-                    return Ok(SessionCondition::HandleInUse);
-                }
-                if text == "amqp:session:unattached-handle" {
-                    return Ok(SessionCondition::UnattachedHandle);
-                }
-                Err(D::Error::invalid_value())
-            }
-            _ => Err(D::Error::invalid_value()),
-        }
-    }
-
-    fn read_encoded(
-        alloc: Global,
-        code: u8,
-        input: &mut &[u8],
-        depth: u16,
-    ) -> Result<SessionCondition, GaveUp> {
-        let text = <serde_amqp::primitives::Symbol as Deserialize>::read_encoded(
-            alloc, code, input, depth,
-        )?;
-        let text = text.as_inner().as_str();
-        if text == "amqp:session:window-violation" {
-            return Ok(SessionCondition::WindowViolation);
-        }
-        if text == "amqp:session:errant-link" {
-            return Ok(SessionCondition::ErrantLink);
-        }
-        if text == "amqp:session:handle-in-use" {
-            return Ok(SessionCondition::HandleInUse);
-        }
-        if text == "amqp:session:unattached-handle" {
-            return Ok(SessionCondition::UnattachedHandle);
-        }
-        Err(GaveUp)
+    fn serialize<S: Serializer>(&self, serializer: &mut S) -> Result<S::Ok, S::Error> {
+        Name(self.as_str()).serialize(serializer)
     }
 }
 
@@ -155,12 +125,12 @@ impl RoundTrip for SessionCondition {
 }
 
 impl LinkCondition {
-    ghost use Rattle.std.specs.Prelude.{◌≡◌, List, ℕ, codes};
-    ghost use Rattle.amqp_types.specs.declared.endpoint_conditions.LinkCondition.TheVariants as variant;
+    ghost use Rattle.std.specs.Prelude.{◌≡◌};
+    ghost use Rattle.serde_amqp.specs.Derive.{scalar, symbol};
 
     /// Returns the text of the value.
     pub fn as_str(&self) -> &'static str
-        ensures { result.now ≡ (elim self.now as (λ _. List ℕ) [ variant.DetachForced ↦ codes "amqp:link:detach-forced" | variant.TransferLimitExceeded ↦ codes "amqp:link:transfer-limit-exceeded" | variant.MessageSizeExceeded ↦ codes "amqp:link:message-size-exceeded" | variant.Redirect ↦ codes "amqp:link:redirect" | variant.Stolen ↦ codes "amqp:link:stolen" ]) }
+        ensures { scalar (symbol result.now) ≡ ⟦<LinkCondition as Readable>⟧.laws.image self.now }
     {
         match self {
             LinkCondition::DetachForced => "amqp:link:detach-forced",
@@ -172,85 +142,51 @@ impl LinkCondition {
     }
 }
 
-impl Serialize for LinkCondition {
-    ghost use Rattle.std.specs.Prelude.{Some, List, ℕ, codes};
-    ghost use Rattle.serde_amqp.specs.Derive.{scalar, symbol};
+impl Readable for LinkCondition {
+    ghost use Rattle.std.specs.Prelude.{List, ℕ, codes};
+    ghost use Rattle.serde_amqp.specs.Derive.{by_text};
     ghost use Rattle.amqp_types.specs.declared.endpoint_conditions.LinkCondition.TheVariants as variant;
 
-    ghost tree = { λ x. Some (scalar (symbol (elim x as (λ _. List ℕ) [ variant.DetachForced ↦ codes "amqp:link:detach-forced" | variant.TransferLimitExceeded ↦ codes "amqp:link:transfer-limit-exceeded" | variant.MessageSizeExceeded ↦ codes "amqp:link:message-size-exceeded" | variant.Redirect ↦ codes "amqp:link:redirect" | variant.Stolen ↦ codes "amqp:link:stolen" ]))) };
+    ghost laws = { by_text (λ x. elim x as (λ _. List ℕ) [
+      | variant.DetachForced ↦ codes "amqp:link:detach-forced"
+      | variant.TransferLimitExceeded ↦ codes "amqp:link:transfer-limit-exceeded"
+      | variant.MessageSizeExceeded ↦ codes "amqp:link:message-size-exceeded"
+      | variant.Redirect ↦ codes "amqp:link:redirect"
+      | variant.Stolen ↦ codes "amqp:link:stolen"
+    ]) };
 
-    fn serialize<S: Serializer>(&self, serializer: &mut S) -> Result<S::Ok, S::Error> {
-        Name(self.as_str()).serialize(serializer)
+    fn read_value<S: Source>(alloc: Global, source: S) -> Result<(LinkCondition, S::Rest), Fault> {
+        let (text, rest) = match read_symbol(alloc, source) {
+            Ok(read) => read,
+            Err(fault) => return Err(fault),
+        };
+        let text = text.as_inner().as_str();
+        if text == "amqp:link:detach-forced" {
+            return Ok((LinkCondition::DetachForced, rest));
+        }
+        if text == "amqp:link:transfer-limit-exceeded" {
+            return Ok((LinkCondition::TransferLimitExceeded, rest));
+        }
+        if text == "amqp:link:message-size-exceeded" {
+            return Ok((LinkCondition::MessageSizeExceeded, rest));
+        }
+        if text == "amqp:link:redirect" {
+            return Ok((LinkCondition::Redirect, rest));
+        }
+        if text == "amqp:link:stolen" {
+            return Ok((LinkCondition::Stolen, rest));
+        }
+        Err(Fault::invalid())
     }
 }
 
-impl Deserialize for LinkCondition {
-    ghost use Rattle.std.specs.Prelude.{◌≡◌, List, ℕ, codes};
-    ghost use Rattle.serde_amqp.specs.Derive.{scalar, symbol, Always};
-    ghost use Rattle.amqp_types.specs.declared.endpoint_conditions.LinkCondition.TheVariants as variant;
+impl Serialize for LinkCondition {
+    ghost use Rattle.std.specs.Prelude.{Some};
 
-    ghost reads = { λ t x. t ≡ scalar (symbol (elim x as (λ _. List ℕ) [ variant.DetachForced ↦ codes "amqp:link:detach-forced" | variant.TransferLimitExceeded ↦ codes "amqp:link:transfer-limit-exceeded" | variant.MessageSizeExceeded ↦ codes "amqp:link:message-size-exceeded" | variant.Redirect ↦ codes "amqp:link:redirect" | variant.Stolen ↦ codes "amqp:link:stolen" ])) };
+    ghost tree = { λ x. Some (⟦<LinkCondition as Readable>⟧.laws.image x) };
 
-    ghost image = { λ x. scalar (symbol (elim x as (λ _. List ℕ) [ variant.DetachForced ↦ codes "amqp:link:detach-forced" | variant.TransferLimitExceeded ↦ codes "amqp:link:transfer-limit-exceeded" | variant.MessageSizeExceeded ↦ codes "amqp:link:message-size-exceeded" | variant.Redirect ↦ codes "amqp:link:redirect" | variant.Stolen ↦ codes "amqp:link:stolen" ])) };
-
-    ghost restorable = { Always };
-
-    ghost same = { λ x y. x ≡ y };
-
-    fn deserialize<D: Deserializer>(
-        _alloc: Global,
-        deserializer: D,
-    ) -> Result<LinkCondition, D::Error> {
-        match deserializer.open() {
-            Content::Symbol(text) => {
-                let text = text.as_inner().as_str();
-                if text == "amqp:link:detach-forced" {
-                    return Ok(LinkCondition::DetachForced);
-                }
-                if text == "amqp:link:transfer-limit-exceeded" {
-                    return Ok(LinkCondition::TransferLimitExceeded);
-                }
-                if text == "amqp:link:message-size-exceeded" {
-                    return Ok(LinkCondition::MessageSizeExceeded);
-                }
-                if text == "amqp:link:redirect" {
-                    return Ok(LinkCondition::Redirect);
-                }
-                if text == "amqp:link:stolen" {
-                    return Ok(LinkCondition::Stolen);
-                }
-                Err(D::Error::invalid_value())
-            }
-            _ => Err(D::Error::invalid_value()),
-        }
-    }
-
-    fn read_encoded(
-        alloc: Global,
-        code: u8,
-        input: &mut &[u8],
-        depth: u16,
-    ) -> Result<LinkCondition, GaveUp> {
-        let text = <serde_amqp::primitives::Symbol as Deserialize>::read_encoded(
-            alloc, code, input, depth,
-        )?;
-        let text = text.as_inner().as_str();
-        if text == "amqp:link:detach-forced" {
-            return Ok(LinkCondition::DetachForced);
-        }
-        if text == "amqp:link:transfer-limit-exceeded" {
-            return Ok(LinkCondition::TransferLimitExceeded);
-        }
-        if text == "amqp:link:message-size-exceeded" {
-            return Ok(LinkCondition::MessageSizeExceeded);
-        }
-        if text == "amqp:link:redirect" {
-            return Ok(LinkCondition::Redirect);
-        }
-        if text == "amqp:link:stolen" {
-            return Ok(LinkCondition::Stolen);
-        }
-        Err(GaveUp)
+    fn serialize<S: Serializer>(&self, serializer: &mut S) -> Result<S::Ok, S::Error> {
+        Name(self.as_str()).serialize(serializer)
     }
 }
 
@@ -259,12 +195,13 @@ impl RoundTrip for LinkCondition {
 }
 
 impl TransactionCondition {
-    ghost use Rattle.std.specs.Prelude.{◌≡◌, List, ℕ, codes};
-    ghost use Rattle.amqp_types.specs.declared.endpoint_conditions.TransactionCondition.TheVariants as variant;
+    ghost use Rattle.std.specs.Prelude.{◌≡◌};
+    ghost use Rattle.serde_amqp.specs.Derive.{scalar, symbol};
 
     /// Returns the text of the value.
     pub fn as_str(&self) -> &'static str
-        ensures { result.now ≡ (elim self.now as (λ _. List ℕ) [ variant.UnknownId ↦ codes "amqp:transaction:unknown-id" | variant.TransactionRollback ↦ codes "amqp:transaction:rollback" | variant.TransactionTimeout ↦ codes "amqp:transaction:timeout" ]) }
+        ensures { scalar (symbol result.now) ≡ ⟦<TransactionCondition as Readable>⟧.laws.image
+            self.now }
     {
         match self {
             TransactionCondition::UnknownId => "amqp:transaction:unknown-id",
@@ -274,73 +211,46 @@ impl TransactionCondition {
     }
 }
 
-impl Serialize for TransactionCondition {
-    ghost use Rattle.std.specs.Prelude.{Some, List, ℕ, codes};
-    ghost use Rattle.serde_amqp.specs.Derive.{scalar, symbol};
+impl Readable for TransactionCondition {
+    ghost use Rattle.std.specs.Prelude.{List, ℕ, codes};
+    ghost use Rattle.serde_amqp.specs.Derive.{by_text};
     ghost use Rattle.amqp_types.specs.declared.endpoint_conditions.TransactionCondition.TheVariants as variant;
 
-    ghost tree = { λ x. Some (scalar (symbol (elim x as (λ _. List ℕ) [ variant.UnknownId ↦ codes "amqp:transaction:unknown-id" | variant.TransactionRollback ↦ codes "amqp:transaction:rollback" | variant.TransactionTimeout ↦ codes "amqp:transaction:timeout" ]))) };
+    ghost laws = { by_text (λ x. elim x as (λ _. List ℕ) [
+      | variant.UnknownId ↦ codes "amqp:transaction:unknown-id"
+      | variant.TransactionRollback ↦ codes "amqp:transaction:rollback"
+      | variant.TransactionTimeout ↦ codes "amqp:transaction:timeout"
+    ]) };
 
-    fn serialize<S: Serializer>(&self, serializer: &mut S) -> Result<S::Ok, S::Error> {
-        Name(self.as_str()).serialize(serializer)
+    fn read_value<S: Source>(
+        alloc: Global,
+        source: S,
+    ) -> Result<(TransactionCondition, S::Rest), Fault> {
+        let (text, rest) = match read_symbol(alloc, source) {
+            Ok(read) => read,
+            Err(fault) => return Err(fault),
+        };
+        let text = text.as_inner().as_str();
+        if text == "amqp:transaction:unknown-id" {
+            return Ok((TransactionCondition::UnknownId, rest));
+        }
+        if text == "amqp:transaction:rollback" {
+            return Ok((TransactionCondition::TransactionRollback, rest));
+        }
+        if text == "amqp:transaction:timeout" {
+            return Ok((TransactionCondition::TransactionTimeout, rest));
+        }
+        Err(Fault::invalid())
     }
 }
 
-impl Deserialize for TransactionCondition {
-    ghost use Rattle.std.specs.Prelude.{◌≡◌, List, ℕ, codes};
-    ghost use Rattle.serde_amqp.specs.Derive.{scalar, symbol, Always};
-    ghost use Rattle.amqp_types.specs.declared.endpoint_conditions.TransactionCondition.TheVariants as variant;
+impl Serialize for TransactionCondition {
+    ghost use Rattle.std.specs.Prelude.{Some};
 
-    ghost reads = { λ t x. t ≡ scalar (symbol (elim x as (λ _. List ℕ) [ variant.UnknownId ↦ codes "amqp:transaction:unknown-id" | variant.TransactionRollback ↦ codes "amqp:transaction:rollback" | variant.TransactionTimeout ↦ codes "amqp:transaction:timeout" ])) };
+    ghost tree = { λ x. Some (⟦<TransactionCondition as Readable>⟧.laws.image x) };
 
-    ghost image = { λ x. scalar (symbol (elim x as (λ _. List ℕ) [ variant.UnknownId ↦ codes "amqp:transaction:unknown-id" | variant.TransactionRollback ↦ codes "amqp:transaction:rollback" | variant.TransactionTimeout ↦ codes "amqp:transaction:timeout" ])) };
-
-    ghost restorable = { Always };
-
-    ghost same = { λ x y. x ≡ y };
-
-    fn deserialize<D: Deserializer>(
-        _alloc: Global,
-        deserializer: D,
-    ) -> Result<TransactionCondition, D::Error> {
-        match deserializer.open() {
-            Content::Symbol(text) => {
-                let text = text.as_inner().as_str();
-                if text == "amqp:transaction:unknown-id" {
-                    return Ok(TransactionCondition::UnknownId);
-                }
-                if text == "amqp:transaction:rollback" {
-                    return Ok(TransactionCondition::TransactionRollback);
-                }
-                if text == "amqp:transaction:timeout" {
-                    return Ok(TransactionCondition::TransactionTimeout);
-                }
-                Err(D::Error::invalid_value())
-            }
-            _ => Err(D::Error::invalid_value()),
-        }
-    }
-
-    fn read_encoded(
-        alloc: Global,
-        code: u8,
-        input: &mut &[u8],
-        depth: u16,
-    ) -> Result<TransactionCondition, GaveUp> {
-        let text = <serde_amqp::primitives::Symbol as Deserialize>::read_encoded(
-            alloc, code, input, depth,
-        )?;
-        let text = text.as_inner().as_str();
-        if text == "amqp:transaction:unknown-id" {
-            return Ok(TransactionCondition::UnknownId);
-        }
-        if text == "amqp:transaction:rollback" {
-            return Ok(TransactionCondition::TransactionRollback);
-        }
-        if text == "amqp:transaction:timeout" {
-            return Ok(TransactionCondition::TransactionTimeout);
-        }
-        Err(GaveUp)
+    fn serialize<S: Serializer>(&self, serializer: &mut S) -> Result<S::Ok, S::Error> {
+        Name(self.as_str()).serialize(serializer)
     }
 }
 

@@ -42,17 +42,31 @@ pub enum ReceiverSettleMode {
 }
 
 // amqp: the impls below are written by tools/derive from the annotations above
-use serde_amqp::derive::{
-    Deserialize, DeserializeError, Deserializer, FixedContent, GaveUp, Global, RoundTrip,
-    Serialize, Serializer,
-};
+use serde_amqp::derive::{Fault, Global, Readable, RoundTrip, Serialize, Serializer, Source};
 
-impl Serialize for Role {
-    ghost use Rattle.std.specs.Prelude.{Some, Bool, true, false};
-    ghost use Rattle.serde_amqp.specs.Derive.{scalar, bool};
+impl Readable for Role {
+    ghost use Rattle.std.specs.Prelude.{Bool, true, false};
+    ghost use Rattle.serde_amqp.specs.Derive.{scalar, bool, by_image};
     ghost use Rattle.amqp_types.specs.declared.modes.Role.TheVariants as variant;
 
-    ghost tree = { λ x. Some (scalar (bool (elim x as (λ _. Bool) [ variant.Sender ↦ false | variant.Receiver ↦ true ]))) };
+    ghost laws = { by_image (λ x. scalar (bool (elim x as (λ _. Bool) [
+      | variant.Sender ↦ false
+      | variant.Receiver ↦ true
+    ]))) };
+
+    fn read_value<S: Source>(alloc: Global, source: S) -> Result<(Role, S::Rest), Fault> {
+        match source.scalar::<bool>(alloc) {
+            Ok((false, rest)) => Ok((Role::Sender, rest)),
+            Ok((true, rest)) => Ok((Role::Receiver, rest)),
+            Err(fault) => Err(fault),
+        }
+    }
+}
+
+impl Serialize for Role {
+    ghost use Rattle.std.specs.Prelude.{Some};
+
+    ghost tree = { λ x. Some (⟦<Role as Readable>⟧.laws.image x) };
 
     fn serialize<S: Serializer>(&self, serializer: &mut S) -> Result<S::Ok, S::Error> {
         match self {
@@ -62,51 +76,39 @@ impl Serialize for Role {
     }
 }
 
-impl Deserialize for Role {
-    ghost use Rattle.std.specs.Prelude.{◌≡◌, Bool, true, false};
-    ghost use Rattle.serde_amqp.specs.Derive.{scalar, bool, Always};
-    ghost use Rattle.amqp_types.specs.declared.modes.Role.TheVariants as variant;
-
-    ghost reads = { λ t x. t ≡ scalar (bool (elim x as (λ _. Bool) [ variant.Sender ↦ false | variant.Receiver ↦ true ])) };
-
-    ghost image = { λ x. scalar (bool (elim x as (λ _. Bool) [ variant.Sender ↦ false | variant.Receiver ↦ true ])) };
-
-    ghost restorable = { Always };
-
-    ghost same = { λ x y. x ≡ y };
-
-    fn deserialize<D: Deserializer>(_alloc: Global, deserializer: D) -> Result<Role, D::Error> {
-        match deserializer.into_fixed() {
-            FixedContent::Bool(false) => Ok(Role::Sender),
-            FixedContent::Bool(true) => Ok(Role::Receiver),
-            _ => Err(D::Error::invalid_value()),
-        }
-    }
-
-    fn read_encoded(
-        alloc: Global,
-        code: u8,
-        input: &mut &[u8],
-        depth: u16,
-    ) -> Result<Role, GaveUp> {
-        match <bool as Deserialize>::read_encoded(alloc, code, input, depth) {
-            Ok(false) => Ok(Role::Sender),
-            Ok(true) => Ok(Role::Receiver),
-            _ => Err(GaveUp),
-        }
-    }
-}
-
 impl RoundTrip for Role {
     fn law() {}
 }
 
-impl Serialize for SenderSettleMode {
-    ghost use Rattle.std.specs.Prelude.{Some, ℕ};
-    ghost use Rattle.serde_amqp.specs.Derive.{scalar, ubyte};
+impl Readable for SenderSettleMode {
+    ghost use Rattle.std.specs.Prelude.{ℕ};
+    ghost use Rattle.serde_amqp.specs.Derive.{scalar, ubyte, by_image};
     ghost use Rattle.amqp_types.specs.declared.modes.SenderSettleMode.TheVariants as variant;
 
-    ghost tree = { λ x. Some (scalar (ubyte (elim x as (λ _. ℕ) [ variant.Unsettled ↦ 0 | variant.Settled ↦ 1 | variant.Mixed ↦ 2 ]))) };
+    ghost laws = { by_image (λ x. scalar (ubyte (elim x as (λ _. ℕ) [
+      | variant.Unsettled ↦ 0
+      | variant.Settled ↦ 1
+      | variant.Mixed ↦ 2
+    ]))) };
+
+    fn read_value<S: Source>(
+        alloc: Global,
+        source: S,
+    ) -> Result<(SenderSettleMode, S::Rest), Fault> {
+        match source.scalar::<u8>(alloc) {
+            Ok((0, rest)) => Ok((SenderSettleMode::Unsettled, rest)),
+            Ok((1, rest)) => Ok((SenderSettleMode::Settled, rest)),
+            Ok((2, rest)) => Ok((SenderSettleMode::Mixed, rest)),
+            Ok(_) => Err(Fault::invalid()),
+            Err(fault) => Err(fault),
+        }
+    }
+}
+
+impl Serialize for SenderSettleMode {
+    ghost use Rattle.std.specs.Prelude.{Some};
+
+    ghost tree = { λ x. Some (⟦<SenderSettleMode as Readable>⟧.laws.image x) };
 
     fn serialize<S: Serializer>(&self, serializer: &mut S) -> Result<S::Ok, S::Error> {
         match self {
@@ -117,99 +119,42 @@ impl Serialize for SenderSettleMode {
     }
 }
 
-impl Deserialize for SenderSettleMode {
-    ghost use Rattle.std.specs.Prelude.{◌≡◌, ℕ};
-    ghost use Rattle.serde_amqp.specs.Derive.{scalar, ubyte, Always};
-    ghost use Rattle.amqp_types.specs.declared.modes.SenderSettleMode.TheVariants as variant;
-
-    ghost reads = { λ t x. t ≡ scalar (ubyte (elim x as (λ _. ℕ) [ variant.Unsettled ↦ 0 | variant.Settled ↦ 1 | variant.Mixed ↦ 2 ])) };
-
-    ghost image = { λ x. scalar (ubyte (elim x as (λ _. ℕ) [ variant.Unsettled ↦ 0 | variant.Settled ↦ 1 | variant.Mixed ↦ 2 ])) };
-
-    ghost restorable = { Always };
-
-    ghost same = { λ x y. x ≡ y };
-
-    fn deserialize<D: Deserializer>(
-        _alloc: Global,
-        deserializer: D,
-    ) -> Result<SenderSettleMode, D::Error> {
-        match deserializer.into_fixed() {
-            FixedContent::Ubyte(0) => Ok(SenderSettleMode::Unsettled),
-            FixedContent::Ubyte(1) => Ok(SenderSettleMode::Settled),
-            FixedContent::Ubyte(2) => Ok(SenderSettleMode::Mixed),
-            _ => Err(D::Error::invalid_value()),
-        }
-    }
-
-    fn read_encoded(
-        alloc: Global,
-        code: u8,
-        input: &mut &[u8],
-        depth: u16,
-    ) -> Result<SenderSettleMode, GaveUp> {
-        match <u8 as Deserialize>::read_encoded(alloc, code, input, depth) {
-            Ok(0) => Ok(SenderSettleMode::Unsettled),
-            Ok(1) => Ok(SenderSettleMode::Settled),
-            Ok(2) => Ok(SenderSettleMode::Mixed),
-            _ => Err(GaveUp),
-        }
-    }
-}
-
 impl RoundTrip for SenderSettleMode {
     fn law() {}
 }
 
-impl Serialize for ReceiverSettleMode {
-    ghost use Rattle.std.specs.Prelude.{Some, ℕ};
-    ghost use Rattle.serde_amqp.specs.Derive.{scalar, ubyte};
+impl Readable for ReceiverSettleMode {
+    ghost use Rattle.std.specs.Prelude.{ℕ};
+    ghost use Rattle.serde_amqp.specs.Derive.{scalar, ubyte, by_image};
     ghost use Rattle.amqp_types.specs.declared.modes.ReceiverSettleMode.TheVariants as variant;
 
-    ghost tree = { λ x. Some (scalar (ubyte (elim x as (λ _. ℕ) [ variant.First ↦ 0 | variant.Second ↦ 1 ]))) };
+    ghost laws = { by_image (λ x. scalar (ubyte (elim x as (λ _. ℕ) [
+      | variant.First ↦ 0
+      | variant.Second ↦ 1
+    ]))) };
+
+    fn read_value<S: Source>(
+        alloc: Global,
+        source: S,
+    ) -> Result<(ReceiverSettleMode, S::Rest), Fault> {
+        match source.scalar::<u8>(alloc) {
+            Ok((0, rest)) => Ok((ReceiverSettleMode::First, rest)),
+            Ok((1, rest)) => Ok((ReceiverSettleMode::Second, rest)),
+            Ok(_) => Err(Fault::invalid()),
+            Err(fault) => Err(fault),
+        }
+    }
+}
+
+impl Serialize for ReceiverSettleMode {
+    ghost use Rattle.std.specs.Prelude.{Some};
+
+    ghost tree = { λ x. Some (⟦<ReceiverSettleMode as Readable>⟧.laws.image x) };
 
     fn serialize<S: Serializer>(&self, serializer: &mut S) -> Result<S::Ok, S::Error> {
         match self {
             ReceiverSettleMode::First => 0u8.serialize(serializer),
             ReceiverSettleMode::Second => 1u8.serialize(serializer),
-        }
-    }
-}
-
-impl Deserialize for ReceiverSettleMode {
-    ghost use Rattle.std.specs.Prelude.{◌≡◌, ℕ};
-    ghost use Rattle.serde_amqp.specs.Derive.{scalar, ubyte, Always};
-    ghost use Rattle.amqp_types.specs.declared.modes.ReceiverSettleMode.TheVariants as variant;
-
-    ghost reads = { λ t x. t ≡ scalar (ubyte (elim x as (λ _. ℕ) [ variant.First ↦ 0 | variant.Second ↦ 1 ])) };
-
-    ghost image = { λ x. scalar (ubyte (elim x as (λ _. ℕ) [ variant.First ↦ 0 | variant.Second ↦ 1 ])) };
-
-    ghost restorable = { Always };
-
-    ghost same = { λ x y. x ≡ y };
-
-    fn deserialize<D: Deserializer>(
-        _alloc: Global,
-        deserializer: D,
-    ) -> Result<ReceiverSettleMode, D::Error> {
-        match deserializer.into_fixed() {
-            FixedContent::Ubyte(0) => Ok(ReceiverSettleMode::First),
-            FixedContent::Ubyte(1) => Ok(ReceiverSettleMode::Second),
-            _ => Err(D::Error::invalid_value()),
-        }
-    }
-
-    fn read_encoded(
-        alloc: Global,
-        code: u8,
-        input: &mut &[u8],
-        depth: u16,
-    ) -> Result<ReceiverSettleMode, GaveUp> {
-        match <u8 as Deserialize>::read_encoded(alloc, code, input, depth) {
-            Ok(0) => Ok(ReceiverSettleMode::First),
-            Ok(1) => Ok(ReceiverSettleMode::Second),
-            _ => Err(GaveUp),
         }
     }
 }

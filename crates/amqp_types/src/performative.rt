@@ -40,37 +40,71 @@ pub enum Performative {
 
 // amqp: the impls below are written by tools/derive from the annotations above
 use serde_amqp::derive::{
-    Alternatives, Deserialize, Deserializer, Either, GaveUp, Global, Record, RoundTrip,
-    RoundTripAlternatives, Serialize, Serializer, laws, read_alternatives,
-    read_alternatives_encoded,
+    Either, Fault, Global, OneOfTypes, PhantomData, Readable, Record, RoundTrip, Serialize,
+    Serializer, Shape, ShapeTree, Source, parts_return, place, read_shaped,
 };
 
+/// What a [`Performative`] is read from.
+type PerformativeTypes = Either<Open, Either<Begin, Either<Attach, PerformativeTypes2>>>;
+
+type PerformativeTypes2 = Either<Flow, Either<Transfer, Either<Disposition, PerformativeTypes3>>>;
+
+type PerformativeTypes3 = Either<Detach, Either<End, Either<Close, Unknown>>>;
+
+type PerformativeShape = OneOfTypes<PerformativeTypes>;
+
 impl Record for Performative {
-    ghost use Rattle.serde_amqp.specs.Derive.{This, Other};
+    ghost use Rattle.serde_amqp.specs.Derive.{first, second, third, fourth, fifth, sixth, seventh};
+    ghost use Rattle.serde_amqp.specs.Derive.{eighth, ninth, rest9};
     ghost use Rattle.amqp_types.specs.declared.performative.Performative.TheVariants as variant;
 
-    type Values = Either<
-        Open,
-        Either<
-            Begin,
-            Either<
-                Attach,
-                Either<
-                    Flow,
-                    Either<
-                        Transfer,
-                        Either<Disposition, Either<Detach, Either<End, Either<Close, Unknown>>>>,
-                    >,
-                >,
-            >,
-        >,
-    >;
+    type Values = <PerformativeShape as Shape>::Value;
 
-    ghost parts = { λ x. elim x as (λ _. _) [ variant.Open v ↦ This v | variant.Begin v ↦ Other (This v) | variant.Attach v ↦ Other (Other (This v)) | variant.Flow v ↦ Other (Other (Other (This v))) | variant.Transfer v ↦ Other (Other (Other (Other (This v)))) | variant.Disposition v ↦ Other (Other (Other (Other (Other (This v))))) | variant.Detach v ↦ Other (Other (Other (Other (Other (Other (This v)))))) | variant.End v ↦ Other (Other (Other (Other (Other (Other (Other (This v))))))) | variant.Close v ↦ Other (Other (Other (Other (Other (Other (Other (Other (This v)))))))) | variant.Other v ↦ Other (Other (Other (Other (Other (Other (Other (Other (Other v)))))))) ] };
+    ghost parts = { λ x. elim x as (λ _. _) [
+      | variant.Open v ↦ first v
+      | variant.Begin v ↦ second v
+      | variant.Attach v ↦ third v
+      | variant.Flow v ↦ fourth v
+      | variant.Transfer v ↦ fifth v
+      | variant.Disposition v ↦ sixth v
+      | variant.Detach v ↦ seventh v
+      | variant.End v ↦ eighth v
+      | variant.Close v ↦ ninth v
+      | variant.Other v ↦ rest9 v
+    ] };
+
+    fn from_parts(values: <PerformativeShape as Shape>::Value) -> Performative {
+        match values {
+            place!(0, value) => Performative::Open(value),
+            place!(1, value) => Performative::Begin(value),
+            place!(2, value) => Performative::Attach(value),
+            place!(3, value) => Performative::Flow(value),
+            place!(4, value) => Performative::Transfer(value),
+            place!(5, value) => Performative::Disposition(value),
+            place!(6, value) => Performative::Detach(value),
+            place!(7, value) => Performative::End(value),
+            place!(8, value) => Performative::Close(value),
+            place!(rest 9, value) => Performative::Other(value),
+        }
+    }
+}
+
+impl Readable for Performative {
+    ghost use Rattle.serde_amqp.specs.Derive.{by_parts};
+
+    ghost laws = { by_parts ⟦<PerformativeShape as Shape>⟧.laws ⟦<Performative as Record>⟧.parts };
+
+    #[inline(always)]
+    fn read_value<S: Source>(alloc: Global, source: S) -> Result<(Performative, S::Rest), Fault> {
+        read_shaped(alloc, source, OneOfTypes(PhantomData))
+    }
 }
 
 impl Serialize for Performative {
-    ghost tree = { λ x. ⟦<Either<Open, Either<Begin, Either<Attach, Either<Flow, Either<Transfer, Either<Disposition, Either<Detach, Either<End, Either<Close, Unknown>>>>>>>>> as RoundTripAlternatives>⟧.trees (⟦<Performative as Record>⟧.parts x) };
+    ghost use Rattle.serde_amqp.specs.Derive.{tree_by_parts};
+
+    ghost tree = { tree_by_parts ⟦<PerformativeShape as ShapeTree>⟧.tree
+        ⟦<Performative as Record>⟧.parts };
 
     fn serialize<S: Serializer>(&self, serializer: &mut S) -> Result<S::Ok, S::Error> {
         match self {
@@ -88,135 +122,9 @@ impl Serialize for Performative {
     }
 }
 
-impl Deserialize for Performative {
-    ghost use Rattle.serde_amqp.specs.Derive.{code, described, OnAlternatives};
-
-    ghost reads = { λ t x. OnAlternatives ⟦<Either<Open, Either<Begin, Either<Attach, Either<Flow, Either<Transfer, Either<Disposition, Either<Detach, Either<End, Either<Close, Unknown>>>>>>>>> as Alternatives>⟧.reads t (⟦<Performative as Record>⟧.parts x) };
-
-    ghost image = { λ x. described (code (⟦<Either<Open, Either<Begin, Either<Attach, Either<Flow, Either<Transfer, Either<Disposition, Either<Detach, Either<End, Either<Close, Unknown>>>>>>>>> as Alternatives>⟧.code_of (⟦<Performative as Record>⟧.parts x))) (⟦<Either<Open, Either<Begin, Either<Attach, Either<Flow, Either<Transfer, Either<Disposition, Either<Detach, Either<End, Either<Close, Unknown>>>>>>>>> as Alternatives>⟧.image (⟦<Performative as Record>⟧.parts x)) };
-
-    ghost restorable = { λ x. ⟦<Either<Open, Either<Begin, Either<Attach, Either<Flow, Either<Transfer, Either<Disposition, Either<Detach, Either<End, Either<Close, Unknown>>>>>>>>> as Alternatives>⟧.restorable (⟦<Performative as Record>⟧.parts x) };
-
-    ghost same = { λ x y. ⟦<Either<Open, Either<Begin, Either<Attach, Either<Flow, Either<Transfer, Either<Disposition, Either<Detach, Either<End, Either<Close, Unknown>>>>>>>>> as Alternatives>⟧.same (⟦<Performative as Record>⟧.parts x) (⟦<Performative as Record>⟧.parts y) };
-
-    fn deserialize<D: Deserializer>(
-        alloc: Global,
-        deserializer: D,
-    ) -> Result<Performative, D::Error> {
-        match read_alternatives::<Performative, D>(alloc, deserializer)? {
-            Either::This(value) => Ok(Performative::Open(value)),
-            Either::Other(Either::This(value)) => Ok(Performative::Begin(value)),
-            Either::Other(Either::Other(Either::This(value))) => Ok(Performative::Attach(value)),
-            Either::Other(Either::Other(Either::Other(Either::This(value)))) => Ok(
-                Performative::Flow(value),
-            ),
-            Either::Other(Either::Other(Either::Other(Either::Other(Either::This(value))))) => Ok(
-                Performative::Transfer(value),
-            ),
-            Either::Other(
-                Either::Other(Either::Other(Either::Other(Either::Other(Either::This(value))))),
-            ) => Ok(Performative::Disposition(value)),
-            Either::Other(
-                Either::Other(
-                    Either::Other(Either::Other(Either::Other(Either::Other(Either::This(value))))),
-                ),
-            ) => Ok(Performative::Detach(value)),
-            Either::Other(
-                Either::Other(
-                    Either::Other(
-                        Either::Other(
-                            Either::Other(Either::Other(Either::Other(Either::This(value)))),
-                        ),
-                    ),
-                ),
-            ) => Ok(Performative::End(value)),
-            Either::Other(
-                Either::Other(
-                    Either::Other(
-                        Either::Other(
-                            Either::Other(
-                                Either::Other(Either::Other(Either::Other(Either::This(value)))),
-                            ),
-                        ),
-                    ),
-                ),
-            ) => Ok(Performative::Close(value)),
-            Either::Other(
-                Either::Other(
-                    Either::Other(
-                        Either::Other(
-                            Either::Other(
-                                Either::Other(Either::Other(Either::Other(Either::Other(value)))),
-                            ),
-                        ),
-                    ),
-                ),
-            ) => Ok(Performative::Other(value)),
-        }
-    }
-
-    fn read_encoded(
-        alloc: Global,
-        code: u8,
-        input: &mut &[u8],
-        depth: u16,
-    ) -> Result<Performative, GaveUp> {
-        match read_alternatives_encoded::<Performative>(alloc, code, input, depth)? {
-            Either::This(value) => Ok(Performative::Open(value)),
-            Either::Other(Either::This(value)) => Ok(Performative::Begin(value)),
-            Either::Other(Either::Other(Either::This(value))) => Ok(Performative::Attach(value)),
-            Either::Other(Either::Other(Either::Other(Either::This(value)))) => Ok(
-                Performative::Flow(value),
-            ),
-            Either::Other(Either::Other(Either::Other(Either::Other(Either::This(value))))) => Ok(
-                Performative::Transfer(value),
-            ),
-            Either::Other(
-                Either::Other(Either::Other(Either::Other(Either::Other(Either::This(value))))),
-            ) => Ok(Performative::Disposition(value)),
-            Either::Other(
-                Either::Other(
-                    Either::Other(Either::Other(Either::Other(Either::Other(Either::This(value))))),
-                ),
-            ) => Ok(Performative::Detach(value)),
-            Either::Other(
-                Either::Other(
-                    Either::Other(
-                        Either::Other(
-                            Either::Other(Either::Other(Either::Other(Either::This(value)))),
-                        ),
-                    ),
-                ),
-            ) => Ok(Performative::End(value)),
-            Either::Other(
-                Either::Other(
-                    Either::Other(
-                        Either::Other(
-                            Either::Other(
-                                Either::Other(Either::Other(Either::Other(Either::This(value)))),
-                            ),
-                        ),
-                    ),
-                ),
-            ) => Ok(Performative::Close(value)),
-            Either::Other(
-                Either::Other(
-                    Either::Other(
-                        Either::Other(
-                            Either::Other(
-                                Either::Other(Either::Other(Either::Other(Either::Other(value)))),
-                            ),
-                        ),
-                    ),
-                ),
-            ) => Ok(Performative::Other(value)),
-        }
-    }
-}
-
 impl RoundTrip for Performative {
     fn law() {
-        laws::alternatives_return::<Performative>();
+        parts_return::<Performative, PerformativeShape>();
     }
 }
 // amqp: end of the impls

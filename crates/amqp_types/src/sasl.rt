@@ -6,7 +6,7 @@ use serde_amqp::primitives::{ByteBuf, Multiple, Symbol};
 ///
 /// # Encoding
 /// A list of the fields, described by the code 0x40.
-// amqp: encoding = "list", code = 0x40, name = "amqp:sasl-mechanisms:list", rename_all = "kebab-case", no_one_pass
+// amqp: encoding = "list", code = 0x40, name = "amqp:sasl-mechanisms:list", rename_all = "kebab-case"
 #[derive(Debug, PartialEq, Drop)]
 pub struct SaslMechanisms {
     /// The mechanisms, the preferred one first.
@@ -17,7 +17,7 @@ pub struct SaslMechanisms {
 ///
 /// # Encoding
 /// A list of the fields, described by the code 0x41.
-// amqp: encoding = "list", code = 0x41, name = "amqp:sasl-init:list", rename_all = "kebab-case", no_one_pass
+// amqp: encoding = "list", code = 0x41, name = "amqp:sasl-init:list", rename_all = "kebab-case"
 #[derive(Debug, PartialEq, Drop)]
 pub struct SaslInit {
     /// The mechanism.
@@ -30,242 +30,128 @@ pub struct SaslInit {
 
 // amqp: the impls below are written by tools/derive from the annotations above
 use serde_amqp::derive::{
-    Composite, Deserialize, DeserializeSeed, Deserializer, FieldSeeds, FieldValues, FromParts,
-    Global, ListOf, ListSeed, Optional, Record, Required, RoundTrip, RoundTripComposite, Serialize,
-    SerializeCompounds, Serializer, build, fields, laws, named, read_composite_type,
+    Composite, Fault, Global, ListOf, Optional, Record, Required, RoundTripComposite, Serialize,
+    SerializeCompounds, Serializer, Shape, ShapeTree, Source, built, composite_returns, fields,
+    named, read_shaped,
 };
 
-impl Serialize for SaslMechanisms {
-    ghost use Rattle.std.specs.Prelude.{[], ◌∷◌};
-    ghost use Rattle.serde_amqp.specs.Derive.{code, short_composite, required_value};
-
-    ghost tree = { λ x. short_composite (code 0x40) (
-        required_value (⟦<Multiple<Symbol> as Serialize>⟧.tree x.sasl_server_mechanisms)
-        ∷ []) };
-
-    fn serialize<S: Serializer>(&self, serializer: &mut S) -> Result<S::Ok, S::Error> {
-        serializer.serialize_described(
-            &0x40u64,
-            &ListOf(fields! {
-                "sasl-server-mechanisms": &self.sasl_server_mechanisms,
-            }),
-        )
-    }
-}
-
-/// The fields of [`SaslMechanisms`], as they are read.
+/// What a [`SaslMechanisms`] is read from.
 type SaslMechanismsFields = Required<Multiple<Symbol>, ()>;
+
+type SaslMechanismsShape = ListOf<SaslMechanismsFields>;
 
 impl Record for SaslMechanisms {
     ghost use Rattle.serde_amqp.specs.Derive.{◌▸◌};
 
-    type Values = <SaslMechanismsFields as FieldSeeds>::Values;
+    type Values = <SaslMechanismsShape as Shape>::Value;
 
     ghost parts = { λ x. x.sasl_server_mechanisms ▸ tt };
-}
 
-impl FromParts for SaslMechanisms {
-    fn from_parts(parts: <SaslMechanismsFields as FieldSeeds>::Values) -> SaslMechanisms {
-        let FieldValues {
-            value: sasl_server_mechanisms,
-            rest: (),
-        } = parts;
-        SaslMechanisms {
-            sasl_server_mechanisms,
-        }
+    fn from_parts(values: <SaslMechanismsShape as Shape>::Value) -> SaslMechanisms {
+        built! { values => SaslMechanisms { sasl_server_mechanisms } }
     }
 }
 
 impl Composite for SaslMechanisms {
     ghost use Rattle.std.specs.Prelude.{codes};
-    ghost use Rattle.serde_amqp.specs.Derive.{OnFields, ReadsRequired, NoMoreFields};
+    ghost use Rattle.serde_amqp.specs.Derive.{by_parts};
 
     ghost descriptor_code = { 0x40 };
 
     ghost descriptor_name = { codes "amqp:sasl-mechanisms:list" };
 
-    ghost reads = { λ t x. OnFields (
-        ReadsRequired (codes "sasl-server-mechanisms") ⟦<Multiple<Symbol> as Deserialize>⟧.reads x.sasl_server_mechanisms
-        NoMoreFields) t };
+    ghost body = { by_parts ⟦<SaslMechanismsShape as Shape>⟧.laws
+        ⟦<SaslMechanisms as Record>⟧.parts };
 
-    ghost image = { λ x. ⟦<ListSeed<SaslMechanismsFields> as DeserializeSeed>⟧.short (⟦<SaslMechanisms as Record>⟧.parts x) };
-
-    ghost restorable = { λ x. ⟦<ListSeed<SaslMechanismsFields> as DeserializeSeed>⟧.restorable (⟦<SaslMechanisms as Record>⟧.parts x) };
-
-    ghost same = { λ x y. ⟦<ListSeed<SaslMechanismsFields> as DeserializeSeed>⟧.same (⟦<SaslMechanisms as Record>⟧.parts x) (⟦<SaslMechanisms as Record>⟧.parts y) };
-
-    fn code() -> u64 {
-        0x40
+    fn descriptor() -> (u64, &'static str) {
+        (0x40, "amqp:sasl-mechanisms:list")
     }
 
-    fn name() -> &'static str {
-        "amqp:sasl-mechanisms:list"
-    }
-
-    fn read_body<D: Deserializer>(
-        alloc: Global,
-        deserializer: D,
-    ) -> Result<SaslMechanisms, D::Error> {
-        build::<SaslMechanisms, D, _>(
-            alloc,
-            deserializer,
-            ListSeed(named! { "sasl-server-mechanisms" }),
-        )
+    #[inline(always)]
+    fn read_body<S: Source>(alloc: Global, source: S) -> Result<(SaslMechanisms, S::Rest), Fault> {
+        let fields = named! { "sasl-server-mechanisms" };
+        read_shaped(alloc, source, ListOf(fields))
     }
 }
 
-impl Deserialize for SaslMechanisms {
-    ghost use Rattle.std.specs.Prelude.{codes};
-    ghost use Rattle.serde_amqp.specs.Derive.{code, described, OnComposite};
+impl Serialize for SaslMechanisms {
+    ghost use Rattle.serde_amqp.specs.Derive.{after_code};
 
-    ghost reads = { λ t x. OnComposite 0x40 (codes "amqp:sasl-mechanisms:list") (λ u. ⟦<SaslMechanisms as Composite>⟧.reads u x) t };
+    ghost tree = { after_code 0x40 ⟦<SaslMechanismsShape as ShapeTree>⟧.tree
+        ⟦<SaslMechanisms as Record>⟧.parts };
 
-    ghost image = { λ x. described (code 0x40) (⟦<SaslMechanisms as Composite>⟧.image x) };
-
-    ghost restorable = { ⟦<SaslMechanisms as Composite>⟧.restorable };
-
-    ghost same = { ⟦<SaslMechanisms as Composite>⟧.same };
-
-    fn deserialize<D: Deserializer>(
-        alloc: Global,
-        deserializer: D,
-    ) -> Result<SaslMechanisms, D::Error> {
-        read_composite_type::<SaslMechanisms, D>(alloc, deserializer)
+    fn serialize<S: Serializer>(&self, serializer: &mut S) -> Result<S::Ok, S::Error> {
+        serializer.serialize_described(
+            &0x40u64,
+            &ListOf(fields! { "sasl-server-mechanisms": &self.sasl_server_mechanisms }),
+        )
     }
 }
 
 impl RoundTripComposite for SaslMechanisms {
     fn composite_law() {
-        laws::short_fields_return::<SaslMechanisms, SaslMechanismsFields>();
-        laws::described_return();
+        composite_returns::<SaslMechanisms, SaslMechanismsShape>();
     }
 }
 
-impl RoundTrip for SaslMechanisms {
-    fn law() {
-        <SaslMechanisms as RoundTripComposite>::composite_law();
-    }
-}
-
-impl Serialize for SaslInit {
-    ghost use Rattle.std.specs.Prelude.{[], ◌∷◌};
-    ghost use Rattle.serde_amqp.specs.Derive.{code, short_composite, required_value, optional_value, of_binary, of_string, of_symbol};
-
-    ghost tree = { λ x. short_composite (code 0x41) (
-        required_value (of_symbol x.mechanism)
-        ∷ optional_value of_binary x.initial_response
-        ∷ optional_value of_string x.hostname
-        ∷ []) };
-
-    fn serialize<S: Serializer>(&self, serializer: &mut S) -> Result<S::Ok, S::Error> {
-        serializer.serialize_described(
-            &0x41u64,
-            &ListOf(fields! {
-                "mechanism": &self.mechanism,
-                "initial-response"?: &self.initial_response,
-                "hostname"?: &self.hostname,
-            }),
-        )
-    }
-}
-
-/// The fields of [`SaslInit`], as they are read.
+/// What a [`SaslInit`] is read from.
 type SaslInitFields = Required<Symbol, Optional<ByteBuf, Optional<String, ()>>>;
+
+type SaslInitShape = ListOf<SaslInitFields>;
 
 impl Record for SaslInit {
     ghost use Rattle.serde_amqp.specs.Derive.{◌▸◌};
 
-    type Values = <SaslInitFields as FieldSeeds>::Values;
+    type Values = <SaslInitShape as Shape>::Value;
 
     ghost parts = { λ x. x.mechanism ▸ x.initial_response ▸ x.hostname ▸ tt };
-}
 
-impl FromParts for SaslInit {
-    fn from_parts(parts: <SaslInitFields as FieldSeeds>::Values) -> SaslInit {
-        let FieldValues {
-            value: mechanism,
-            rest,
-        } = parts;
-        let FieldValues {
-            value: initial_response,
-            rest,
-        } = rest;
-        let FieldValues {
-            value: hostname,
-            rest: (),
-        } = rest;
-        SaslInit {
-            mechanism,
-            initial_response,
-            hostname,
-        }
+    fn from_parts(values: <SaslInitShape as Shape>::Value) -> SaslInit {
+        built! { values => SaslInit { mechanism, initial_response, hostname } }
     }
 }
 
 impl Composite for SaslInit {
     ghost use Rattle.std.specs.Prelude.{codes};
-    ghost use Rattle.serde_amqp.specs.Derive.{OnFields, ReadsRequired, ReadsOptional, NoMoreFields};
+    ghost use Rattle.serde_amqp.specs.Derive.{by_parts};
 
     ghost descriptor_code = { 0x41 };
 
     ghost descriptor_name = { codes "amqp:sasl-init:list" };
 
-    ghost reads = { λ t x. OnFields (
-        ReadsRequired (codes "mechanism") ⟦<Symbol as Deserialize>⟧.reads x.mechanism (
-        ReadsOptional (codes "initial-response") ⟦<ByteBuf as Deserialize>⟧.reads x.initial_response (
-        ReadsOptional (codes "hostname") ⟦<String as Deserialize>⟧.reads x.hostname
-        NoMoreFields))) t };
+    ghost body = { by_parts ⟦<SaslInitShape as Shape>⟧.laws ⟦<SaslInit as Record>⟧.parts };
 
-    ghost image = { λ x. ⟦<ListSeed<SaslInitFields> as DeserializeSeed>⟧.short (⟦<SaslInit as Record>⟧.parts x) };
-
-    ghost restorable = { λ x. ⟦<ListSeed<SaslInitFields> as DeserializeSeed>⟧.restorable (⟦<SaslInit as Record>⟧.parts x) };
-
-    ghost same = { λ x y. ⟦<ListSeed<SaslInitFields> as DeserializeSeed>⟧.same (⟦<SaslInit as Record>⟧.parts x) (⟦<SaslInit as Record>⟧.parts y) };
-
-    fn code() -> u64 {
-        0x41
+    fn descriptor() -> (u64, &'static str) {
+        (0x41, "amqp:sasl-init:list")
     }
 
-    fn name() -> &'static str {
-        "amqp:sasl-init:list"
-    }
-
-    fn read_body<D: Deserializer>(alloc: Global, deserializer: D) -> Result<SaslInit, D::Error> {
-        build::<SaslInit, D, _>(
-            alloc,
-            deserializer,
-            ListSeed(named! { "mechanism", "initial-response"?, "hostname"? }),
-        )
+    #[inline(always)]
+    fn read_body<S: Source>(alloc: Global, source: S) -> Result<(SaslInit, S::Rest), Fault> {
+        let fields = named! { "mechanism", "initial-response"?, "hostname"? };
+        read_shaped(alloc, source, ListOf(fields))
     }
 }
 
-impl Deserialize for SaslInit {
-    ghost use Rattle.std.specs.Prelude.{codes};
-    ghost use Rattle.serde_amqp.specs.Derive.{code, described, OnComposite};
+impl Serialize for SaslInit {
+    ghost use Rattle.serde_amqp.specs.Derive.{after_code};
 
-    ghost reads = { λ t x. OnComposite 0x41 (codes "amqp:sasl-init:list") (λ u. ⟦<SaslInit as Composite>⟧.reads u x) t };
+    ghost tree = { after_code 0x41 ⟦<SaslInitShape as ShapeTree>⟧.tree
+        ⟦<SaslInit as Record>⟧.parts };
 
-    ghost image = { λ x. described (code 0x41) (⟦<SaslInit as Composite>⟧.image x) };
-
-    ghost restorable = { ⟦<SaslInit as Composite>⟧.restorable };
-
-    ghost same = { ⟦<SaslInit as Composite>⟧.same };
-
-    fn deserialize<D: Deserializer>(alloc: Global, deserializer: D) -> Result<SaslInit, D::Error> {
-        read_composite_type::<SaslInit, D>(alloc, deserializer)
+    fn serialize<S: Serializer>(&self, serializer: &mut S) -> Result<S::Ok, S::Error> {
+        serializer.serialize_described(
+            &0x41u64,
+            &ListOf(fields! {
+                "mechanism": &self.mechanism, "initial-response"?: &self.initial_response,
+                "hostname"?: &self.hostname
+            }),
+        )
     }
 }
 
 impl RoundTripComposite for SaslInit {
     fn composite_law() {
-        laws::short_fields_return::<SaslInit, SaslInitFields>();
-        laws::described_return();
-    }
-}
-
-impl RoundTrip for SaslInit {
-    fn law() {
-        <SaslInit as RoundTripComposite>::composite_law();
+        composite_returns::<SaslInit, SaslInitShape>();
     }
 }
 // amqp: end of the impls

@@ -9,7 +9,7 @@ use amqp_messaging::Unknown;
 ///
 /// # Encoding
 /// The composite of the variant.
-// amqp: encoding = "described", others, no_one_pass
+// amqp: encoding = "described", others
 #[derive(Debug, PartialEq, Drop)]
 pub enum SaslFrame {
     /// The mechanisms of the server.
@@ -28,24 +28,62 @@ pub enum SaslFrame {
 
 // amqp: the impls below are written by tools/derive from the annotations above
 use serde_amqp::derive::{
-    Alternatives, Deserialize, Deserializer, Either, Global, Record, RoundTrip,
-    RoundTripAlternatives, Serialize, Serializer, laws, read_alternatives,
+    Either, Fault, Global, OneOfTypes, PhantomData, Readable, Record, RoundTrip, Serialize,
+    Serializer, Shape, ShapeTree, Source, parts_return, place, read_shaped,
 };
 
+/// What a [`SaslFrame`] is read from.
+type SaslFrameTypes = Either<SaslMechanisms, Either<SaslInit, SaslFrameTypes2>>;
+
+type SaslFrameTypes2 = Either<SaslChallenge, Either<SaslResponse, SaslFrameTypes3>>;
+
+type SaslFrameTypes3 = Either<SaslOutcome, Unknown>;
+
+type SaslFrameShape = OneOfTypes<SaslFrameTypes>;
+
 impl Record for SaslFrame {
-    ghost use Rattle.serde_amqp.specs.Derive.{This, Other};
+    ghost use Rattle.serde_amqp.specs.Derive.{first, second, third, fourth, fifth, rest5};
     ghost use Rattle.amqp_types.specs.declared.sasl_frame.SaslFrame.TheVariants as variant;
 
-    type Values = Either<
-        SaslMechanisms,
-        Either<SaslInit, Either<SaslChallenge, Either<SaslResponse, Either<SaslOutcome, Unknown>>>>,
-    >;
+    type Values = <SaslFrameShape as Shape>::Value;
 
-    ghost parts = { λ x. elim x as (λ _. _) [ variant.SaslMechanisms v ↦ This v | variant.SaslInit v ↦ Other (This v) | variant.SaslChallenge v ↦ Other (Other (This v)) | variant.SaslResponse v ↦ Other (Other (Other (This v))) | variant.SaslOutcome v ↦ Other (Other (Other (Other (This v)))) | variant.Other v ↦ Other (Other (Other (Other (Other v)))) ] };
+    ghost parts = { λ x. elim x as (λ _. _) [
+      | variant.SaslMechanisms v ↦ first v
+      | variant.SaslInit v ↦ second v
+      | variant.SaslChallenge v ↦ third v
+      | variant.SaslResponse v ↦ fourth v
+      | variant.SaslOutcome v ↦ fifth v
+      | variant.Other v ↦ rest5 v
+    ] };
+
+    fn from_parts(values: <SaslFrameShape as Shape>::Value) -> SaslFrame {
+        match values {
+            place!(0, value) => SaslFrame::SaslMechanisms(value),
+            place!(1, value) => SaslFrame::SaslInit(value),
+            place!(2, value) => SaslFrame::SaslChallenge(value),
+            place!(3, value) => SaslFrame::SaslResponse(value),
+            place!(4, value) => SaslFrame::SaslOutcome(value),
+            place!(rest 5, value) => SaslFrame::Other(value),
+        }
+    }
+}
+
+impl Readable for SaslFrame {
+    ghost use Rattle.serde_amqp.specs.Derive.{by_parts};
+
+    ghost laws = { by_parts ⟦<SaslFrameShape as Shape>⟧.laws ⟦<SaslFrame as Record>⟧.parts };
+
+    #[inline(always)]
+    fn read_value<S: Source>(alloc: Global, source: S) -> Result<(SaslFrame, S::Rest), Fault> {
+        read_shaped(alloc, source, OneOfTypes(PhantomData))
+    }
 }
 
 impl Serialize for SaslFrame {
-    ghost tree = { λ x. ⟦<Either<SaslMechanisms, Either<SaslInit, Either<SaslChallenge, Either<SaslResponse, Either<SaslOutcome, Unknown>>>>> as RoundTripAlternatives>⟧.trees (⟦<SaslFrame as Record>⟧.parts x) };
+    ghost use Rattle.serde_amqp.specs.Derive.{tree_by_parts};
+
+    ghost tree = { tree_by_parts ⟦<SaslFrameShape as ShapeTree>⟧.tree
+        ⟦<SaslFrame as Record>⟧.parts };
 
     fn serialize<S: Serializer>(&self, serializer: &mut S) -> Result<S::Ok, S::Error> {
         match self {
@@ -59,40 +97,9 @@ impl Serialize for SaslFrame {
     }
 }
 
-impl Deserialize for SaslFrame {
-    ghost use Rattle.serde_amqp.specs.Derive.{code, described, OnAlternatives};
-
-    ghost reads = { λ t x. OnAlternatives ⟦<Either<SaslMechanisms, Either<SaslInit, Either<SaslChallenge, Either<SaslResponse, Either<SaslOutcome, Unknown>>>>> as Alternatives>⟧.reads t (⟦<SaslFrame as Record>⟧.parts x) };
-
-    ghost image = { λ x. described (code (⟦<Either<SaslMechanisms, Either<SaslInit, Either<SaslChallenge, Either<SaslResponse, Either<SaslOutcome, Unknown>>>>> as Alternatives>⟧.code_of (⟦<SaslFrame as Record>⟧.parts x))) (⟦<Either<SaslMechanisms, Either<SaslInit, Either<SaslChallenge, Either<SaslResponse, Either<SaslOutcome, Unknown>>>>> as Alternatives>⟧.image (⟦<SaslFrame as Record>⟧.parts x)) };
-
-    ghost restorable = { λ x. ⟦<Either<SaslMechanisms, Either<SaslInit, Either<SaslChallenge, Either<SaslResponse, Either<SaslOutcome, Unknown>>>>> as Alternatives>⟧.restorable (⟦<SaslFrame as Record>⟧.parts x) };
-
-    ghost same = { λ x y. ⟦<Either<SaslMechanisms, Either<SaslInit, Either<SaslChallenge, Either<SaslResponse, Either<SaslOutcome, Unknown>>>>> as Alternatives>⟧.same (⟦<SaslFrame as Record>⟧.parts x) (⟦<SaslFrame as Record>⟧.parts y) };
-
-    fn deserialize<D: Deserializer>(alloc: Global, deserializer: D) -> Result<SaslFrame, D::Error> {
-        match read_alternatives::<SaslFrame, D>(alloc, deserializer)? {
-            Either::This(value) => Ok(SaslFrame::SaslMechanisms(value)),
-            Either::Other(Either::This(value)) => Ok(SaslFrame::SaslInit(value)),
-            Either::Other(Either::Other(Either::This(value))) => Ok(SaslFrame::SaslChallenge(
-                value,
-            )),
-            Either::Other(Either::Other(Either::Other(Either::This(value)))) => Ok(
-                SaslFrame::SaslResponse(value),
-            ),
-            Either::Other(Either::Other(Either::Other(Either::Other(Either::This(value))))) => Ok(
-                SaslFrame::SaslOutcome(value),
-            ),
-            Either::Other(Either::Other(Either::Other(Either::Other(Either::Other(value))))) => Ok(
-                SaslFrame::Other(value),
-            ),
-        }
-    }
-}
-
 impl RoundTrip for SaslFrame {
     fn law() {
-        laws::alternatives_return::<SaslFrame>();
+        parts_return::<SaslFrame, SaslFrameShape>();
     }
 }
 // amqp: end of the impls

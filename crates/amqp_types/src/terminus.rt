@@ -47,16 +47,38 @@ pub enum DistributionMode {
 
 // amqp: the impls below are written by tools/derive from the annotations above
 use serde_amqp::derive::{
-    Content, Deserialize, DeserializeError, Deserializer, FixedContent, GaveUp, Global, Name,
-    RoundTrip, Serialize, Serializer,
+    Fault, Global, Name, Readable, RoundTrip, Serialize, Serializer, Source, read_symbol,
 };
 
-impl Serialize for TerminusDurability {
-    ghost use Rattle.std.specs.Prelude.{Some, ℕ};
-    ghost use Rattle.serde_amqp.specs.Derive.{scalar, uint};
+impl Readable for TerminusDurability {
+    ghost use Rattle.std.specs.Prelude.{ℕ};
+    ghost use Rattle.serde_amqp.specs.Derive.{scalar, uint, by_image};
     ghost use Rattle.amqp_types.specs.declared.terminus.TerminusDurability.TheVariants as variant;
 
-    ghost tree = { λ x. Some (scalar (uint (elim x as (λ _. ℕ) [ variant.None ↦ 0 | variant.Configuration ↦ 1 | variant.UnsettledState ↦ 2 ]))) };
+    ghost laws = { by_image (λ x. scalar (uint (elim x as (λ _. ℕ) [
+      | variant.None ↦ 0
+      | variant.Configuration ↦ 1
+      | variant.UnsettledState ↦ 2
+    ]))) };
+
+    fn read_value<S: Source>(
+        alloc: Global,
+        source: S,
+    ) -> Result<(TerminusDurability, S::Rest), Fault> {
+        match source.scalar::<u32>(alloc) {
+            Ok((0, rest)) => Ok((TerminusDurability::None, rest)),
+            Ok((1, rest)) => Ok((TerminusDurability::Configuration, rest)),
+            Ok((2, rest)) => Ok((TerminusDurability::UnsettledState, rest)),
+            Ok(_) => Err(Fault::invalid()),
+            Err(fault) => Err(fault),
+        }
+    }
+}
+
+impl Serialize for TerminusDurability {
+    ghost use Rattle.std.specs.Prelude.{Some};
+
+    ghost tree = { λ x. Some (⟦<TerminusDurability as Readable>⟧.laws.image x) };
 
     fn serialize<S: Serializer>(&self, serializer: &mut S) -> Result<S::Ok, S::Error> {
         match self {
@@ -67,57 +89,18 @@ impl Serialize for TerminusDurability {
     }
 }
 
-impl Deserialize for TerminusDurability {
-    ghost use Rattle.std.specs.Prelude.{◌≡◌, ℕ};
-    ghost use Rattle.serde_amqp.specs.Derive.{scalar, uint, Always};
-    ghost use Rattle.amqp_types.specs.declared.terminus.TerminusDurability.TheVariants as variant;
-
-    ghost reads = { λ t x. t ≡ scalar (uint (elim x as (λ _. ℕ) [ variant.None ↦ 0 | variant.Configuration ↦ 1 | variant.UnsettledState ↦ 2 ])) };
-
-    ghost image = { λ x. scalar (uint (elim x as (λ _. ℕ) [ variant.None ↦ 0 | variant.Configuration ↦ 1 | variant.UnsettledState ↦ 2 ])) };
-
-    ghost restorable = { Always };
-
-    ghost same = { λ x y. x ≡ y };
-
-    fn deserialize<D: Deserializer>(
-        _alloc: Global,
-        deserializer: D,
-    ) -> Result<TerminusDurability, D::Error> {
-        match deserializer.into_fixed() {
-            FixedContent::Uint(0) => Ok(TerminusDurability::None),
-            FixedContent::Uint(1) => Ok(TerminusDurability::Configuration),
-            FixedContent::Uint(2) => Ok(TerminusDurability::UnsettledState),
-            _ => Err(D::Error::invalid_value()),
-        }
-    }
-
-    fn read_encoded(
-        alloc: Global,
-        code: u8,
-        input: &mut &[u8],
-        depth: u16,
-    ) -> Result<TerminusDurability, GaveUp> {
-        match <u32 as Deserialize>::read_encoded(alloc, code, input, depth) {
-            Ok(0) => Ok(TerminusDurability::None),
-            Ok(1) => Ok(TerminusDurability::Configuration),
-            Ok(2) => Ok(TerminusDurability::UnsettledState),
-            _ => Err(GaveUp),
-        }
-    }
-}
-
 impl RoundTrip for TerminusDurability {
     fn law() {}
 }
 
 impl TerminusExpiryPolicy {
-    ghost use Rattle.std.specs.Prelude.{◌≡◌, List, ℕ, codes};
-    ghost use Rattle.amqp_types.specs.declared.terminus.TerminusExpiryPolicy.TheVariants as variant;
+    ghost use Rattle.std.specs.Prelude.{◌≡◌};
+    ghost use Rattle.serde_amqp.specs.Derive.{scalar, symbol};
 
     /// Returns the text of the value.
     pub fn as_str(&self) -> &'static str
-        ensures { result.now ≡ (elim self.now as (λ _. List ℕ) [ variant.LinkDetach ↦ codes "link-detach" | variant.SessionEnd ↦ codes "session-end" | variant.ConnectionClose ↦ codes "connection-close" | variant.Never ↦ codes "never" ]) }
+        ensures { scalar (symbol result.now) ≡ ⟦<TerminusExpiryPolicy as Readable>⟧.laws.image
+            self.now }
     {
         match self {
             TerminusExpiryPolicy::LinkDetach => "link-detach",
@@ -128,79 +111,50 @@ impl TerminusExpiryPolicy {
     }
 }
 
-impl Serialize for TerminusExpiryPolicy {
-    ghost use Rattle.std.specs.Prelude.{Some, List, ℕ, codes};
-    ghost use Rattle.serde_amqp.specs.Derive.{scalar, symbol};
+impl Readable for TerminusExpiryPolicy {
+    ghost use Rattle.std.specs.Prelude.{List, ℕ, codes};
+    ghost use Rattle.serde_amqp.specs.Derive.{by_text};
     ghost use Rattle.amqp_types.specs.declared.terminus.TerminusExpiryPolicy.TheVariants as variant;
 
-    ghost tree = { λ x. Some (scalar (symbol (elim x as (λ _. List ℕ) [ variant.LinkDetach ↦ codes "link-detach" | variant.SessionEnd ↦ codes "session-end" | variant.ConnectionClose ↦ codes "connection-close" | variant.Never ↦ codes "never" ]))) };
+    ghost laws = { by_text (λ x. elim x as (λ _. List ℕ) [
+      | variant.LinkDetach ↦ codes "link-detach"
+      | variant.SessionEnd ↦ codes "session-end"
+      | variant.ConnectionClose ↦ codes "connection-close"
+      | variant.Never ↦ codes "never"
+    ]) };
 
-    fn serialize<S: Serializer>(&self, serializer: &mut S) -> Result<S::Ok, S::Error> {
-        Name(self.as_str()).serialize(serializer)
+    fn read_value<S: Source>(
+        alloc: Global,
+        source: S,
+    ) -> Result<(TerminusExpiryPolicy, S::Rest), Fault> {
+        let (text, rest) = match read_symbol(alloc, source) {
+            Ok(read) => read,
+            Err(fault) => return Err(fault),
+        };
+        let text = text.as_inner().as_str();
+        if text == "link-detach" {
+            return Ok((TerminusExpiryPolicy::LinkDetach, rest));
+        }
+        if text == "session-end" {
+            return Ok((TerminusExpiryPolicy::SessionEnd, rest));
+        }
+        if text == "connection-close" {
+            return Ok((TerminusExpiryPolicy::ConnectionClose, rest));
+        }
+        if text == "never" {
+            return Ok((TerminusExpiryPolicy::Never, rest));
+        }
+        Err(Fault::invalid())
     }
 }
 
-impl Deserialize for TerminusExpiryPolicy {
-    ghost use Rattle.std.specs.Prelude.{◌≡◌, List, ℕ, codes};
-    ghost use Rattle.serde_amqp.specs.Derive.{scalar, symbol, Always};
-    ghost use Rattle.amqp_types.specs.declared.terminus.TerminusExpiryPolicy.TheVariants as variant;
+impl Serialize for TerminusExpiryPolicy {
+    ghost use Rattle.std.specs.Prelude.{Some};
 
-    ghost reads = { λ t x. t ≡ scalar (symbol (elim x as (λ _. List ℕ) [ variant.LinkDetach ↦ codes "link-detach" | variant.SessionEnd ↦ codes "session-end" | variant.ConnectionClose ↦ codes "connection-close" | variant.Never ↦ codes "never" ])) };
+    ghost tree = { λ x. Some (⟦<TerminusExpiryPolicy as Readable>⟧.laws.image x) };
 
-    ghost image = { λ x. scalar (symbol (elim x as (λ _. List ℕ) [ variant.LinkDetach ↦ codes "link-detach" | variant.SessionEnd ↦ codes "session-end" | variant.ConnectionClose ↦ codes "connection-close" | variant.Never ↦ codes "never" ])) };
-
-    ghost restorable = { Always };
-
-    ghost same = { λ x y. x ≡ y };
-
-    fn deserialize<D: Deserializer>(
-        _alloc: Global,
-        deserializer: D,
-    ) -> Result<TerminusExpiryPolicy, D::Error> {
-        match deserializer.open() {
-            Content::Symbol(text) => {
-                let text = text.as_inner().as_str();
-                if text == "link-detach" {
-                    return Ok(TerminusExpiryPolicy::LinkDetach);
-                }
-                if text == "session-end" {
-                    return Ok(TerminusExpiryPolicy::SessionEnd);
-                }
-                if text == "connection-close" {
-                    return Ok(TerminusExpiryPolicy::ConnectionClose);
-                }
-                if text == "never" {
-                    return Ok(TerminusExpiryPolicy::Never);
-                }
-                Err(D::Error::invalid_value())
-            }
-            _ => Err(D::Error::invalid_value()),
-        }
-    }
-
-    fn read_encoded(
-        alloc: Global,
-        code: u8,
-        input: &mut &[u8],
-        depth: u16,
-    ) -> Result<TerminusExpiryPolicy, GaveUp> {
-        let text = <serde_amqp::primitives::Symbol as Deserialize>::read_encoded(
-            alloc, code, input, depth,
-        )?;
-        let text = text.as_inner().as_str();
-        if text == "link-detach" {
-            return Ok(TerminusExpiryPolicy::LinkDetach);
-        }
-        if text == "session-end" {
-            return Ok(TerminusExpiryPolicy::SessionEnd);
-        }
-        if text == "connection-close" {
-            return Ok(TerminusExpiryPolicy::ConnectionClose);
-        }
-        if text == "never" {
-            return Ok(TerminusExpiryPolicy::Never);
-        }
-        Err(GaveUp)
+    fn serialize<S: Serializer>(&self, serializer: &mut S) -> Result<S::Ok, S::Error> {
+        Name(self.as_str()).serialize(serializer)
     }
 }
 
@@ -209,12 +163,12 @@ impl RoundTrip for TerminusExpiryPolicy {
 }
 
 impl DistributionMode {
-    ghost use Rattle.std.specs.Prelude.{◌≡◌, List, ℕ, codes};
-    ghost use Rattle.amqp_types.specs.declared.terminus.DistributionMode.TheVariants as variant;
+    ghost use Rattle.std.specs.Prelude.{◌≡◌};
+    ghost use Rattle.serde_amqp.specs.Derive.{scalar, symbol};
 
     /// Returns the text of the value.
     pub fn as_str(&self) -> &'static str
-        ensures { result.now ≡ (elim self.now as (λ _. List ℕ) [ variant.Move ↦ codes "move" | variant.Copy ↦ codes "copy" ]) }
+        ensures { scalar (symbol result.now) ≡ ⟦<DistributionMode as Readable>⟧.laws.image self.now }
     {
         match self {
             DistributionMode::Move => "move",
@@ -223,67 +177,42 @@ impl DistributionMode {
     }
 }
 
-impl Serialize for DistributionMode {
-    ghost use Rattle.std.specs.Prelude.{Some, List, ℕ, codes};
-    ghost use Rattle.serde_amqp.specs.Derive.{scalar, symbol};
+impl Readable for DistributionMode {
+    ghost use Rattle.std.specs.Prelude.{List, ℕ, codes};
+    ghost use Rattle.serde_amqp.specs.Derive.{by_text};
     ghost use Rattle.amqp_types.specs.declared.terminus.DistributionMode.TheVariants as variant;
 
-    ghost tree = { λ x. Some (scalar (symbol (elim x as (λ _. List ℕ) [ variant.Move ↦ codes "move" | variant.Copy ↦ codes "copy" ]))) };
+    ghost laws = { by_text (λ x. elim x as (λ _. List ℕ) [
+      | variant.Move ↦ codes "move"
+      | variant.Copy ↦ codes "copy"
+    ]) };
 
-    fn serialize<S: Serializer>(&self, serializer: &mut S) -> Result<S::Ok, S::Error> {
-        Name(self.as_str()).serialize(serializer)
+    fn read_value<S: Source>(
+        alloc: Global,
+        source: S,
+    ) -> Result<(DistributionMode, S::Rest), Fault> {
+        let (text, rest) = match read_symbol(alloc, source) {
+            Ok(read) => read,
+            Err(fault) => return Err(fault),
+        };
+        let text = text.as_inner().as_str();
+        if text == "move" {
+            return Ok((DistributionMode::Move, rest));
+        }
+        if text == "copy" {
+            return Ok((DistributionMode::Copy, rest));
+        }
+        Err(Fault::invalid())
     }
 }
 
-impl Deserialize for DistributionMode {
-    ghost use Rattle.std.specs.Prelude.{◌≡◌, List, ℕ, codes};
-    ghost use Rattle.serde_amqp.specs.Derive.{scalar, symbol, Always};
-    ghost use Rattle.amqp_types.specs.declared.terminus.DistributionMode.TheVariants as variant;
+impl Serialize for DistributionMode {
+    ghost use Rattle.std.specs.Prelude.{Some};
 
-    ghost reads = { λ t x. t ≡ scalar (symbol (elim x as (λ _. List ℕ) [ variant.Move ↦ codes "move" | variant.Copy ↦ codes "copy" ])) };
+    ghost tree = { λ x. Some (⟦<DistributionMode as Readable>⟧.laws.image x) };
 
-    ghost image = { λ x. scalar (symbol (elim x as (λ _. List ℕ) [ variant.Move ↦ codes "move" | variant.Copy ↦ codes "copy" ])) };
-
-    ghost restorable = { Always };
-
-    ghost same = { λ x y. x ≡ y };
-
-    fn deserialize<D: Deserializer>(
-        _alloc: Global,
-        deserializer: D,
-    ) -> Result<DistributionMode, D::Error> {
-        match deserializer.open() {
-            Content::Symbol(text) => {
-                let text = text.as_inner().as_str();
-                if text == "move" {
-                    return Ok(DistributionMode::Move);
-                }
-                if text == "copy" {
-                    return Ok(DistributionMode::Copy);
-                }
-                Err(D::Error::invalid_value())
-            }
-            _ => Err(D::Error::invalid_value()),
-        }
-    }
-
-    fn read_encoded(
-        alloc: Global,
-        code: u8,
-        input: &mut &[u8],
-        depth: u16,
-    ) -> Result<DistributionMode, GaveUp> {
-        let text = <serde_amqp::primitives::Symbol as Deserialize>::read_encoded(
-            alloc, code, input, depth,
-        )?;
-        let text = text.as_inner().as_str();
-        if text == "move" {
-            return Ok(DistributionMode::Move);
-        }
-        if text == "copy" {
-            return Ok(DistributionMode::Copy);
-        }
-        Err(GaveUp)
+    fn serialize<S: Serializer>(&self, serializer: &mut S) -> Result<S::Ok, S::Error> {
+        Name(self.as_str()).serialize(serializer)
     }
 }
 

@@ -1,0 +1,18 @@
+//! What the impls that `tools/derive` writes use: traits, types, functions and macros of the other
+//! modules, under one path.
+
+pub use amqp_ser::fields;
+pub use amqp_read::{built, named, place, variants};
+pub use amqp_read::{
+    AfterCode, AfterName, AnyOf, ByIndex, Composite, DataVariant, Defaulted, Deserialize, Either,
+    Fault, FullListOf, ListOf, MapOf, Named, Never, Of, OneOfTypes, Optional, Readable, Record,
+    Required, Shape, Source, UnitVariant, read_shaped, read_string, read_symbol,
+};
+pub use amqp_round_trip::{
+    MapKey, RoundTrip, RoundTripComposite, ShapeTree, after_name_returns, composite_returns, laws,
+    named_after_name_returns, named_composite_returns, named_parts_return, parts_return,
+};
+pub use amqp_ser::{Name, Serialize, SerializeCompounds, SerializeScalars, Serializer, VariantOf};
+pub use amqp_value::Value;
+pub use std::alloc::Global;
+pub use std::marker::PhantomData;

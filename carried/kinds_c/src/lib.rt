@@ -1,0 +1,5 @@
+//! One type.
+#![tactic(auto)]
+
+pub mod choices;
+pub mod derive;
