@@ -1,5 +1,0 @@
-//! One type.
-#![tactic(auto)]
-
-pub mod choices;
-pub mod derive;
