@@ -15,7 +15,7 @@ use crate::source::Source;
 use std::alloc::Global;
 use std::marker::PhantomData;
 
-/// The fields to read, in order, with their names. The macro [`named!`] builds them.
+/// The fields to read, in order, with their names. The macro `named!` of serde_amqp builds them.
 pub trait FieldSeeds: Sized {
     /// The values of the fields: [`FieldValues`] of each and the others, and `()` after the last.
     type Values;

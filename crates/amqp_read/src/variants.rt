@@ -14,7 +14,7 @@ use crate::shape::Nameless;
 use crate::source::Source;
 use std::alloc::Global;
 
-/// The variants to read, in order. The macro [`variants!`] builds them.
+/// The variants to read, in order. The macro `variants!` of serde_amqp builds them.
 pub trait Variants: Sized + Drop {
     /// The type of one of the variants.
     type Value: Drop;

@@ -1,6 +1,6 @@
-//! The macros of user-defined types, and of values written in place. `amqp_ser` and `amqp_read` have
-//! those of types too, for crates that do not depend on this one: a crate that calls a macro depends
-//! on the crate that defines it.
+//! The macros of user-defined types, and of values written in place. `amqp_ser` has `fields!` too, for
+//! crates that do not depend on this one: a crate that calls a macro depends on the crate that defines
+//! it.
 
 /// Builds the fields of a struct, in order: `fields! { "name": value, "other"?: option, .. }`.
 ///

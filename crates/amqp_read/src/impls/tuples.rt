@@ -11,7 +11,6 @@ use crate::fault::Fault;
 use crate::fields::FieldValues;
 use crate::seed::{Record, read};
 use crate::source::Source;
-use crate::values;
 use amqp_ser::ListOf;
 use std::alloc::Global;
 use std::marker::PhantomData;
@@ -31,7 +30,7 @@ impl<A: Deserialize> Record for (A,) {
 
     #[inline(always)]
     fn from_parts(values: FieldValues<A, ()>) -> (A,) {
-        let values! { a } = values;
+        let FieldValues { value: a, rest: () } = values;
         (a,)
     }
 }
@@ -60,7 +59,10 @@ impl<A: Deserialize, B: Deserialize> Record for (A, B) {
 
     #[inline(always)]
     fn from_parts(values: FieldValues<A, FieldValues<B, ()>>) -> (A, B) {
-        let values! { a, b } = values;
+        let FieldValues {
+            value: a,
+            rest: FieldValues { value: b, rest: () },
+        } = values;
         (a, b)
     }
 }
@@ -90,7 +92,13 @@ impl<A: Deserialize, B: Deserialize, C: Deserialize> Record for (A, B, C) {
 
     #[inline(always)]
     fn from_parts(values: FieldValues<A, FieldValues<B, FieldValues<C, ()>>>) -> (A, B, C) {
-        let values! { a, b, c } = values;
+        let FieldValues {
+            value: a,
+            rest: FieldValues {
+                value: b,
+                rest: FieldValues { value: c, rest: () },
+            },
+        } = values;
         (a, b, c)
     }
 }
@@ -122,7 +130,16 @@ impl<A: Deserialize, B: Deserialize, C: Deserialize, D: Deserialize> Record for 
     fn from_parts(
         values: FieldValues<A, FieldValues<B, FieldValues<C, FieldValues<D, ()>>>>,
     ) -> (A, B, C, D) {
-        let values! { a, b, c, d } = values;
+        let FieldValues {
+            value: a,
+            rest: FieldValues {
+                value: b,
+                rest: FieldValues {
+                    value: c,
+                    rest: FieldValues { value: d, rest: () },
+                },
+            },
+        } = values;
         (a, b, c, d)
     }
 }
