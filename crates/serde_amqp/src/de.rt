@@ -7,8 +7,8 @@ pub use amqp_read::{
     EncodedEntries, Fault, FaultKind, FieldSeeds, FieldValues, Form, FullListOf, Held,
     HeldElements, HeldEntries, ListOf, MapOf, Named, NamedFields, Nameless, Never, NoBranch,
     Numbered, Of, OneOf, OneOfTypes, Optional, Readable, Record, Required, Scalar, Seed, Shape,
-    Source, UnitVariant, Variants, keys_differ, read, read_composite, read_shaped, read_string,
-    read_symbol,
+    Source, UnitVariant, Variants, keys_differ, laws, read, read_composite, read_shaped,
+    read_string, read_symbol,
 };
 pub use amqp_visit::{
     DeserializeSeed, Deserializer, EnumAccess, MapAccess, SeqAccess, TypeSeed, VariantAccess,
