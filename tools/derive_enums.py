@@ -3,7 +3,7 @@
 from types import SimpleNamespace
 
 from derive_structs import field_rows, field_step, named, said_shape, shape_tree, tree_of
-from derive_terms import N, WIDTH, aliases, built, cases, filled, function, impl, law, macro, parts, quote, reading, serialize, uses, words_in
+from derive_terms import N, aliases, built, cases, filled, function, impl, law, macro, parts, quote, reading, serialize, uses, words_in
 
 # of a scalar type: the variant of Value, its kind in a tree, and what the kind contains
 SCALARS = {
@@ -23,7 +23,6 @@ OPENED = "            Ok(read) => read,\n            Err(fault) => return Err(fa
 
 def match_on(value, arms):
     rows = [f"            {arm} => {body},\n" for arm, body in arms]
-    rows = [row if len(row) <= WIDTH + 1 else f"            {arm} => {{\n                {body}\n            }}\n" for row, (arm, body) in zip(rows, arms)]
     return f"        match {value} {{\n{''.join(rows)}        }}\n"
 
 

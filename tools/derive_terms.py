@@ -1,4 +1,4 @@
-"""The text of impls, in the formatter's layout: names of the library, terms of the logic, types, calls and functions."""
+"""The text of impls: names of the library, terms of the logic, types, calls and functions."""
 
 import re
 import textwrap
@@ -15,30 +15,42 @@ PLACES = (
      "NewtypeVariant first second third fourth fifth sixth seventh eighth ninth tenth rest1 rest2 rest3 rest4 rest5 rest6 rest7 rest8 "
      "rest9 rest10"),
 )
+# the types that every crate has
+PRELUDE = ("Box", "Option", "Result", "String", "Vec")
 SIGNS = {"◌≡◌": "≡", "◌∷◌": "∷", "◌▸◌": "▸", "[]": "[]"}
 
 
 class Library:
-    """Names of `serde_amqp::derive`, as `N.Source`: imported by the impls of a file, unless the file has another item of the name."""
+    """Names of `serde_amqp::derive`, as `N.Source`: imported by the printed file, unless its types are or hold other items of the name."""
 
-    def begin(self, text):
-        """Begins a file, whose text without the impls this is."""
-        paths = re.findall(r"^(?:pub )?use ([^;]*);", text, re.M)
-        words = lambda ours: {it for path in paths if bool(re.match("(serde_amqp|std)::", path)) == ours for it in re.findall(r"\w+", path)}
-        self.known, self.used = words(True), set()
-        self.taken = words(False) | set(re.findall(r"\b(?:struct|enum|type|trait)\s+(\w+)", text))
+    def begin(self, text, types):
+        """Begins the file of the impls of these types, which the text of their file declares."""
+        uses = re.findall(r"^(?:pub(?:\([^)]*\))? )?use ([^;]*);", text, re.M)
+        words = lambda uses: {it for use in uses for it in re.findall(r"(?<=[\s:{,])\w+", use)}
+        known = words(uses) | set(re.findall(r"\b(?:struct|enum|type|trait|const|static|mod)\s+(\w+)", text))
+        fields = [f for t in types for f in t.fields + [f for v in t.variants for f in v.fields]]
+        held = {it for f in fields for it in re.findall(r"(?<![\w:])[A-Za-z_]\w*", f.type)}
+        self.of_file = {t.name for t in types} | {it for it in held if it in known or it[0].isupper() and it not in PRELUDE}
+        self.others = self.of_file - words(use for use in uses if use.startswith("serde_amqp::"))
+        self.used = set()
 
     def __getattr__(self, name):
-        if name in self.taken:
+        if name in self.others:
             return f"serde_amqp::derive::{name}"
         self.used.add(name)
         return name
 
-    def imports(self):
-        """The line that imports what the impls name."""
-        names = sorted(self.used - self.known, key=lambda it: (it[0].islower(), it))
-        line = f"use serde_amqp::derive::{{{', '.join(names)}}};\n"
-        return line if len(line) <= WIDTH + 1 else f"use serde_amqp::derive::{{\n{rows_of(names, '    ')},\n}};\n"
+    def imports(self, impls):
+        """The lines that import what the impls name: of the annotated file, and of the library."""
+        code = code_in(impls)
+        of_file = sorted(it for it in self.of_file if re.search(rf"(?<![\w:]){it}\b", code))
+        return f"use super::{{{', '.join(of_file)}}};\nuse serde_amqp::derive::{{{', '.join(sorted(self.used - self.of_file))}}};\n"
+
+
+def code_in(text):
+    """The code of a printed text, without comments, texts and terms, but with what terms have in ⟦⟧."""
+    text = re.sub(r'//[^\n]*|"[^"]*"', "", text)
+    return re.sub(r"ghost use [^;]*;|ghost \w+ = \{.*?\};", lambda it: " ".join(re.findall("⟦[^⟧]*⟧", it.group())), text, flags=re.S)
 
 
 N = Library()
@@ -88,10 +100,7 @@ def impl(trait, t, members, *functions, types=()):
 def function(name, arguments, result, body):
     """A function of an impl."""
     arrow = f" -> {result}" if result else ""
-    head = f"    fn {name}({', '.join(arguments)}){arrow} {{"
-    if len(head) > WIDTH:
-        head = f"    fn {name}(\n" + "".join(f"        {it},\n" for it in arguments) + f"    ){arrow} {{"
-    return head + (f"\n{body}    }}\n" if body else "}\n")
+    return f"    fn {name}({', '.join(arguments)}){arrow} {{" + (f"\n{body}    }}\n" if body else "}\n")
 
 
 def serialize(body):

@@ -143,7 +143,8 @@ def type_of(line, name, text):
         raise Wrong(line, f"{name}: `{word}` is no type of AMQP" + (f": write {INSTEAD[word]}" if word in INSTEAD else ""))
     if "&" in text:
         raise Wrong(line, f"{name}: `{text}` is a reference: write the type itself, such as `ByteBuf` for `&[u8]`")
-    return text
+    # as the module of the impls, which is one level down, names it
+    return re.sub(r"(?<![\w:])(super|self)::", lambda it: "super::super::" if it.group(1) == "super" else "super::", text)
 
 
 def number_of(line, what, type_, text):
@@ -309,7 +310,7 @@ def types_of(text):
     """The annotated types of a file, in order."""
     lines, found, end = text.split("\n"), [], 0
     for number, line in enumerate(lines, 1):
-        if not re.match(r"\s*//[/!]*\s*amqp\s*:", line) or re.match("// amqp: (the impls below|end of the impls)", line):
+        if not re.match(r"\s*//[/!]*\s*amqp\s*:", line):
             continue
         if not re.match(r"\s*// amqp: \S", line):
             raise Wrong(number, 'an annotation is written as `// amqp: ..`, with these blanks')

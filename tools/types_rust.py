@@ -124,4 +124,4 @@ def module_file(table, module):
             path = f"crate::{m.name}" if m.crate == module.crate else m.crate
             names[path] = [*names.get(path, []), *(t.rust for t in m.types)]
     uses = "".join(sorted(import_of(path, [name for name in of if name in used]) for path, of in names.items()))
-    return f"//! {module.comment}\n\n{uses}" + ("\n" if uses else "") + body + "\n"
+    return f"//! {module.comment}\n\nmod derived;\n\n{uses}" + ("\n" if uses else "") + body

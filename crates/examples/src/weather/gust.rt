@@ -3,6 +3,8 @@
 //! For readers who need composites as the AMQP standard writes them. `tools/derive` writes the impls
 //! from the annotation above the struct.
 
+mod derived;
+
 /// A gust of wind: a list described by the code 0x17.
 // amqp: encoding = "list", code = 0x17
 #[derive(Debug, PartialEq, Drop)]
@@ -14,59 +16,3 @@ pub struct Gust {
     /// The minute of the day, if known.
     pub at: Option<u16>,
 }
-
-// amqp: the impls below are written by tools/derive from the annotations above
-use serde_amqp::derive::{
-    AfterCode, Fault, Global, ListOf, Optional, Readable, Record, Required, RoundTrip, Serialize,
-    SerializeCompounds, Serializer, Shape, ShapeTree, Source, built, fields, named, parts_return,
-    read_shaped,
-};
-
-/// What a [`Gust`] is read from.
-type GustFields = Required<u32, Optional<u16, Optional<u16, ()>>>;
-
-type GustShape = AfterCode<ListOf<GustFields>, 0x17>;
-
-impl Record for Gust {
-    ghost use Rattle.serde_amqp.specs.Derive.{◌▸◌};
-
-    type Values = <GustShape as Shape>::Value;
-
-    ghost parts = { λ x. x.speed ▸ x.from ▸ x.at ▸ tt };
-
-    fn from_parts(values: <GustShape as Shape>::Value) -> Gust {
-        built! { values => Gust { speed, from, at } }
-    }
-}
-
-impl Readable for Gust {
-    ghost use Rattle.serde_amqp.specs.Derive.{by_parts};
-
-    ghost laws = { by_parts ⟦<GustShape as Shape>⟧.laws ⟦<Gust as Record>⟧.parts };
-
-    #[inline(always)]
-    fn read_value<S: Source>(alloc: Global, source: S) -> Result<(Gust, S::Rest), Fault> {
-        let fields = named! { "speed", "from"?, "at"? };
-        read_shaped(alloc, source, AfterCode::<_, 0x17>(ListOf(fields)))
-    }
-}
-
-impl Serialize for Gust {
-    ghost use Rattle.serde_amqp.specs.Derive.{tree_by_parts};
-
-    ghost tree = { tree_by_parts ⟦<GustShape as ShapeTree>⟧.tree ⟦<Gust as Record>⟧.parts };
-
-    fn serialize<S: Serializer>(&self, serializer: &mut S) -> Result<S::Ok, S::Error> {
-        serializer.serialize_described(
-            &0x17u64,
-            &ListOf(fields! { "speed": &self.speed, "from"?: &self.from, "at"?: &self.at }),
-        )
-    }
-}
-
-impl RoundTrip for Gust {
-    fn law() {
-        parts_return::<Gust, GustShape>();
-    }
-}
-// amqp: end of the impls
