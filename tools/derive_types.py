@@ -268,6 +268,8 @@ def check(t):
     line, n = t.line, t.name
     if t.encoding == "basic" and len(t.fields) != 1:
         raise Wrong(line, f'{n}: encoding = "basic" is for one field, and it has {len(t.fields)}')
+    if twice := next((f.member for at, f in enumerate(t.fields) if f.member in {it.member for it in t.fields[:at]}), None):
+        raise Wrong(line, f"{n} has two fields `{twice}`")
     if t.by_name and len({f.name for f in t.fields}) != len(t.fields):
         raise Wrong(line, f"{n} has two fields of one name")
     if t.is_enum and not t.variants:

@@ -1,7 +1,7 @@
 """The layout of the kit's formatter, `rt fmt`."""
 
-import functools
 import os
+import shutil
 import subprocess
 import tempfile
 
@@ -10,13 +10,13 @@ class NoLayout(Exception):
     """Says why a text has no layout."""
 
 
-@functools.cache
 def formatter():
-    try:
-        guides = subprocess.run(["rt", "doc"], capture_output=True, text=True, check=True).stdout.strip()
-    except (OSError, subprocess.CalledProcessError) as error:
-        raise NoLayout(f"`rt doc` does not run, which names the folder of the kit: {error}") from None
-    return os.path.join(os.path.dirname(guides), "bin", "rattle")
+    """The formatter, which is in the kit's folder of `rt`."""
+    rt = shutil.which("rt")
+    path = os.path.join(os.path.dirname(os.path.realpath(rt)), "rattle") if rt else ""
+    if not os.path.exists(path):
+        raise NoLayout("the kit's formatter `rattle` is not found beside `rt`")
+    return path
 
 
 def layout(text):
@@ -27,6 +27,7 @@ def layout(text):
             file.write(text)
         done = subprocess.run([formatter(), "fmt", "--write", path], capture_output=True, text=True, check=False)
         if done.returncode:
-            raise NoLayout(f"the formatter refuses what is printed: {(done.stderr + done.stdout).strip()}")
+            said = (done.stderr + done.stdout).strip().removeprefix(f"{path}: ")
+            raise NoLayout(f"the formatter refuses what is printed: {said}")
         with open(path, encoding="utf-8") as file:
             return file.read()
