@@ -17,6 +17,7 @@ use crate::seed::Seed;
 use crate::shape::{FullListOf, Shape};
 use crate::source::Source;
 use amqp_ser::{ListOf, MapOf};
+use amqp_value::ValueKind;
 use std::alloc::Global;
 
 /// Fields that are written as another shape, and read from a list or an array, by position, or
@@ -133,9 +134,10 @@ where
                 Ok(read) => read,
                 Err(fault) => return Err(fault),
             };
+            let found = value.kind();
             match read_as::<F, Held>(alloc, fields, form_of(&value), Held { value }) {
                 Ok(read) => Ok((read.0, rest)),
-                Err(fault) => Err(fault),
+                Err(fault) => Err(fault.in_value(found)),
             }
         }
         form => match read_as::<F, S>(alloc, fields, form, source) {
@@ -176,7 +178,7 @@ where
             Ok(read) => Ok(read),
             Err(fault) => Err(fault),
         },
-        Form::Uint => Err(Fault::invalid()),
+        Form::Uint => Err(Fault::other(None, ValueKind::Uint)),
         Form::Other => Err(Fault::invalid()),
     }
 }

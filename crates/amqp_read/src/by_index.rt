@@ -12,7 +12,7 @@ use crate::held::Held;
 use crate::shape::Shape;
 use crate::source::Source;
 use crate::variants::Variants;
-use amqp_value::Value;
+use amqp_value::{Value, ValueKind};
 use std::alloc::Global;
 
 /// One of some variants, which is read from its index, from a list of the index and the value, or
@@ -71,16 +71,27 @@ fn read_enum<V: Variants>(alloc: Global, variants: V, value: Value) -> Result<V:
             Ok(variant) => Ok(variant),
             Err(fault) => Err(fault),
         },
-        _ => Err(Fault::invalid()),
+        other => Err(refused(other)),
     }
 }
 
-// Reads the variant with this index and value.
+// Drops a value that is no index, list or map.
+fn refused(value: Value) -> Fault
+    ensures { ¬ (IsMemory result) }
+{
+    let found = value.kind();
+    drop(value);
+    Fault::other(None, found)
+}
+
+// Reads the variant with this index, the first of its list or map, and value, the last of this number
+// of values that were taken.
 fn read_at<V: Variants>(
     alloc: Global,
     variants: V,
     index: Value,
     value: Option<Value>,
+    taken: usize,
 ) -> Result<V::Value, Fault>
     ensures read { Variant (AtIndex V.reads (index_of_tree (tree_of index))
         (value_of tree_of value)) result }
@@ -92,14 +103,14 @@ fn read_at<V: Variants>(
         Value::Uint(index) => match value {
             Some(value) => match variants.read_value(alloc, index, Held { value }) {
                 Ok(read) => Ok(read.0),
-                Err(fault) => Err(fault),
+                Err(fault) => Err(fault.after(Some(taken))),
             },
             None => match variants.read_index(index) {
                 Ok(variant) => Ok(variant),
-                Err(fault) => Err(fault),
+                Err(fault) => Err(fault.after(Some(1))),
             },
         },
-        _ => Err(Fault::invalid()),
+        other => Err(refused(other).after(Some(1))),
     }
 }
 
@@ -114,11 +125,11 @@ fn read_listed<V: Variants>(
     let mut values = values.into_iter();
     match values.next() {
         Some(index) => match values.next() {
-            Some(value) => match read_at::<V>(alloc, variants, index, Some(value)) {
+            Some(value) => match read_at::<V>(alloc, variants, index, Some(value), 2) {
                 Ok(variant) => Ok(variant),
                 Err(fault) => Err(fault),
             },
-            None => match read_at::<V>(alloc, variants, index, None) {
+            None => match read_at::<V>(alloc, variants, index, None, 1) {
                 Ok(variant) => Ok(variant),
                 Err(fault) => Err(fault),
             },
@@ -142,8 +153,8 @@ fn read_keyed<V: Variants>(
     let mut pairs = pairs.into_iter();
     match pairs.next() {
         Some((index, value)) => match pairs.next() {
-            Some(_) => Err(Fault::invalid()),
-            None => match read_at::<V>(alloc, variants, index, Some(value)) {
+            Some(_) => Err(Fault::other(None, ValueKind::Map)),
+            None => match read_at::<V>(alloc, variants, index, Some(value), 1) {
                 Ok(variant) => Ok(variant),
                 Err(fault) => Err(fault),
             },
@@ -156,5 +167,5 @@ fn read_keyed<V: Variants>(
 fn no_value() -> Fault
     ensures { ¬ (IsMemory result) }
 {
-    Fault::new(FaultKind::Message("Expecting a Value"))
+    Fault::new(FaultKind::Message("Expecting a Value")).after(Some(1))
 }

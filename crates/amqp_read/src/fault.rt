@@ -1,7 +1,7 @@
 //! The error of reading.
 
 ghost use Rattle.std.specs.Prelude.{◌≡◌};
-ghost use Rattle.amqp_read.specs.declared.fault.FaultKind.TheVariants.{OutOfMemory};
+ghost use Rattle.amqp_read.specs.declared.fault.FaultKind.TheVariants.{OutOfMemory, Invalid, GaveUp};
 ghost use Rattle.amqp_data.specs.declared.error.Error.TheVariants as error;
 ghost use Rattle.amqp_read.specs.Results.{IsMemory, kind_of};
 ghost use Rattle.amqp_read.specs.Spelled.{IsOfReading, error_of};
@@ -28,7 +28,8 @@ pub enum FaultKind {
 }
 
 /// Why nothing was read, and where.
-// Of few words, none smaller than eight bytes: as the error of each call it lies where the value lies.
+// Of few words, none smaller than eight bytes: as the error of each call it lies where the value
+// lies.
 #[derive(Debug, PartialEq, Eq, Drop)]
 pub struct Fault {
     // The number of the kind, in the order of `FaultKind`.
@@ -92,7 +93,8 @@ impl Fault {
     /// Returns the error for a value that is not read.
     #[inline(always)]
     pub fn invalid() -> Fault
-        ensures { ¬ (IsMemory result) }
+        ensures memory { ¬ (IsMemory result) }
+        ensures kind { kind_of result ≡ Invalid }
     {
         Fault::new(FaultKind::Invalid)
     }
@@ -100,7 +102,8 @@ impl Fault {
     /// Returns the error for a value of another type than the one wanted, or than several.
     #[inline(never)]
     pub fn other(wanted: Option<ValueKind>, found: ValueKind) -> Fault
-        ensures { ¬ (IsMemory result) }
+        ensures memory { ¬ (IsMemory result) }
+        ensures kind { kind_of result ≡ Invalid }
     {
         let mut fault = Fault::new(FaultKind::Invalid);
         let wanted = match wanted {
@@ -114,22 +117,24 @@ impl Fault {
     /// Returns the error for a value with another descriptor.
     #[inline(never)]
     pub fn other_descriptor() -> Fault
-        ensures { ¬ (IsMemory result) }
+        ensures memory { ¬ (IsMemory result) }
+        ensures kind { kind_of result ≡ Invalid }
     {
         Fault::other(None, ValueKind::Described)
     }
 
-    /// Returns the error for a required field that is missing, in a list after this number of
+    /// Returns the error for a required field that is missing, in a list the last of this number of
     /// elements.
     #[inline(never)]
     pub fn missing(name: &'static str, taken: Option<usize>) -> Fault
-        ensures { ¬ (IsMemory result) }
+        ensures memory { ¬ (IsMemory result) }
+        ensures kind { kind_of result ≡ Invalid }
     {
         let mut fault = Fault::new(FaultKind::Invalid);
         fault.field = name;
         fault.place = PLACED
             | match taken {
-                Some(taken) => (taken as u64).saturating_add(1) << 17,
+                Some(taken) => (taken as u64) << 17,
                 None => 0,
             };
         fault
@@ -138,7 +143,8 @@ impl Fault {
     /// Returns the error of a source that gives up.
     #[inline(always)]
     pub fn gave_up() -> Fault
-        ensures { ¬ (IsMemory result) }
+        ensures memory { ¬ (IsMemory result) }
+        ensures kind { kind_of result ≡ GaveUp }
     {
         Fault::new(FaultKind::GaveUp)
     }
@@ -170,6 +176,18 @@ impl Fault {
                     Some(taken) => (taken as u64) << 17,
                     None => 0,
                 };
+        }
+        fault
+    }
+
+    /// Adds the type of the value that could not be read, if nothing is known of its place.
+    #[inline(never)]
+    pub fn in_value(self, found: ValueKind) -> Fault
+        ensures { kind_of result ≡ kind_of self }
+    {
+        let mut fault = self;
+        if fault.place == 0 {
+            fault.place = fault.place | number_of(found) << 8;
         }
         fault
     }

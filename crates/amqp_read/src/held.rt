@@ -28,7 +28,7 @@ pub struct Held {
 #[derive(Drop)]
 pub struct HeldElements {
     values: IntoIter<Value>,
-    /// The number of elements at first.
+    /// The number of elements at first, and of those that were asked for after the last.
     count: usize,
 }
 
@@ -196,7 +196,10 @@ impl Source for Held {
     fn next(elements: &mut HeldElements) -> Option<Held> {
         match elements.values.next() {
             Some(value) => Some(Held { value }),
-            None => None,
+            None => {
+                elements.count = elements.count.saturating_add(1);
+                None
+            }
         }
     }
 

@@ -25,6 +25,17 @@ use std::alloc::Global;
 const DEPTH: u16 = 255;
 
 /// Reads a `T` from the value.
+///
+/// # Errors
+/// Returns `Error::OutOfMemory` if an allocation fails. Otherwise returns an error if and only if
+/// the value cannot be read as a `T`; the implementation of `T` determines which of `InvalidValue`,
+/// `TooLong` and `Message`. The value is dropped.
+///
+/// # Memory
+/// Allocates from `alloc` what the implementation of `T` allocates.
+///
+/// # Example
+/// `Value::Uint(1)` is read as the `u32` 1, and gives `InvalidValue` as a `u64`.
 pub fn from_value<T: Deserialize>(alloc: Global, value: Value) -> Result<T, Error>
     ensures read { Answers (λ e. e ≡ OutOfMemory) (T.reads (tree_of value)) result }
     ensures law { (x : T) → T.restorable x → tree_of value ≡ T.image x →
@@ -37,7 +48,19 @@ pub fn from_value<T: Deserialize>(alloc: Global, value: Value) -> Result<T, Erro
     }
 }
 
-/// Reads a `T` from the value, and says which field could not be read.
+/// Reads a `T` from the value, like [`from_value`], and says which field could not be read.
+///
+/// # Errors
+/// Returns the error of `from_value`, the name or the position of the innermost field or element that
+/// could not be read, its type and the type that is read. The value is dropped.
+///
+/// # Memory
+/// Allocates from `alloc` what `from_value` allocates.
+///
+/// # Example
+/// As a struct of the fields `id` and `size`, both a `u32`, the list of the uint 1 and the string `a`
+/// gives `FaultKind::Invalid` with the field `size`, the index 1, `ValueKind::Uint` wanted and
+/// `ValueKind::String` found.
 pub fn from_value_located<T: Deserialize>(alloc: Global, value: Value) -> Result<T, Fault>
     ensures read { Answers IsMemory (T.reads (tree_of value)) result }
     ensures law { Restores T.image T.restorable T.same IsMemory (tree_of value) result }
@@ -49,6 +72,22 @@ pub fn from_value_located<T: Deserialize>(alloc: Global, value: Value) -> Result
 }
 
 /// Reads a `T` from the bytes of exactly one encoded value.
+///
+/// # Encoding
+/// Accepts the bytes that `decode_value` accepts: every form of AMQP 1.0 part 1, section 1.6, to a
+/// depth of 256. `T` determines which values are read.
+///
+/// # Errors
+/// Returns the errors of `decode_value` if the bytes are not one encoded value, or if bytes are left
+/// over, and otherwise the errors of `from_value`. An error other than `OutOfMemory` is returned
+/// only if the bytes encode no value of which a `T` can be read.
+///
+/// # Memory
+/// Allocates the `T` from `alloc`, without an untyped value. If that fails, what it allocated is
+/// freed, and the bytes are decoded to an untyped value, which is freed too.
+///
+/// # Example
+/// `5205` is read as the `u32` 5. `520540` and `5105` are not.
 pub fn from_slice<T: Deserialize>(alloc: Global, bytes: &[u8]) -> Result<T, Error>
     ensures read { Answers (λ e. e ≡ OutOfMemory) (ReadsSpelled T.reads bytes.now) result }
     ensures law { (x : T) → T.restorable x → Spells 256 bytes.now (T.image x) →

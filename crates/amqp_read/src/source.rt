@@ -1,6 +1,6 @@
 //! Sources of one value, which reading consumes.
 
-ghost use Rattle.std.specs.Prelude.{◌≡◌, ◌⊎◌, ◌<◌, ℕ, List, [], ◌∷◌, Bool, true, not, ◌&&◌, IsTrue, IfOk, IfErr, IfSome, IfNone, Some, None};
+ghost use Rattle.std.specs.Prelude.{◌≡◌, ◌⊎◌, ◌<◌, ◌≤◌, ℕ, List, [], ◌∷◌, Bool, true, not, ◌&&◌, IsTrue, IfOk, IfErr, IfSome, IfNone, Some, None};
 ghost use Rattle.std.specs.Bool.{OnTrue};
 ghost use Rattle.std.specs.List.{AllZip};
 ghost use Rattle.std.specs.Map.{keys_of};
@@ -198,8 +198,8 @@ pub trait Source: Sized + Drop {
         fault
     }
 
-    /// The error for a required field that is missing, after this number of elements. A source
-    /// that keeps no places returns [`Fault::invalid`].
+    /// The error for a required field that is missing, the last of this number of elements that were
+    /// asked for. A source that keeps no places returns [`Fault::invalid`].
     #[inline(always)]
     fn missing(_name: &'static str, _taken: Option<usize>) -> Fault
         ensures { ¬ (IsMemory result) }
@@ -207,14 +207,15 @@ pub trait Source: Sized + Drop {
         Fault::invalid()
     }
 
-    /// The number of elements that were taken, if it is known.
+    /// The number of elements that were asked for, if it is known.
     #[inline(always)]
     fn taken(_elements: &Self::Elements) -> Option<usize> {
         None
     }
 
-    /// A number of elements that are certainly left, for which room can be reserved.
-    fn room(elements: &Self::Elements) -> usize;
+    /// At most the number of elements that are left, for which room can be reserved.
+    fn room(elements: &Self::Elements) -> usize
+        ensures { result ≤ number elements.now };
 
     /// Reads the elements of a list or an array, which are scalars of one kind.
     fn scalars<K: Scalar>(alloc: Global, elements: Self::Elements) -> Result<Vec<K>, Fault>
@@ -291,6 +292,7 @@ pub trait Source: Sized + Drop {
         None
     }
 
-    /// A number of entries that are certainly left, for which room can be reserved.
-    fn entry_room(entries: &Self::Entries) -> usize;
+    /// At most the number of entries that are left, for which room can be reserved.
+    fn entry_room(entries: &Self::Entries) -> usize
+        ensures { result ≤ pair_number entries.now };
 }

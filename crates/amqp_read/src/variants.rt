@@ -12,6 +12,7 @@ use crate::branches::{Either, Never};
 use crate::fault::{Fault, FaultKind};
 use crate::shape::Nameless;
 use crate::source::Source;
+use amqp_value::ValueKind;
 use std::alloc::Global;
 
 /// The variants to read, in order. The macro `variants!` of serde_amqp builds them.
@@ -68,7 +69,7 @@ impl Variants for () {
     ghost same = { λ _ _. ⊥ };
 
     fn read_index(self, _index: u32) -> Result<Never, Fault> {
-        Err(Fault::invalid())
+        Err(Fault::other(None, ValueKind::Uint))
     }
 
     fn read_value<S: Source>(
@@ -77,7 +78,7 @@ impl Variants for () {
         _index: u32,
         _source: S,
     ) -> Result<(Never, S::Rest), Fault> {
-        Err(Fault::invalid())
+        Err(Fault::other(None, ValueKind::Uint).after(Some(1)))
     }
 }
 
@@ -159,7 +160,7 @@ impl<X: Nameless, R: Variants> Variants for DataVariant<X, R> {
 
     fn read_index(self, index: u32) -> Result<Either<X::Value, R::Value>, Fault> {
         if index == 0 {
-            return Err(Fault::new(FaultKind::Message(self.missing)));
+            return Err(Fault::new(FaultKind::Message(self.missing)).in_value(ValueKind::Uint));
         }
         match self.rest.read_index(index - 1) {
             Ok(other) => Ok(Either::Other(other)),
