@@ -88,13 +88,18 @@ def texts(t, content):
     return f"impl {t.name} {{\n{uses(' '.join(said), t)}{more}\n{out}}}\n"
 
 
+def other(t):
+    """The error for another value of the type whose values are restricted."""
+    return f"{N.Fault}::other(None, {N.ValueKind}::{SCALARS[t.source][0]})"
+
+
 def select_text(t):
     """The statements that select the variant by a text."""
     if len(t.variants) > MOST_TESTS:
         return f"        match {t.name}::from_text(text) {{\n            Some(value) => Ok((value, rest)),\n" \
-            f"            None => Err({N.Fault}::invalid()),\n        }}\n"
+            f"            None => Err({other(t)}),\n        }}\n"
     tests = "".join(f"        if text == {v.value} {{\n            return Ok(({t.name}::{v.name}, rest));\n        }}\n" for v in t.variants)
-    return f"{tests}        Err({N.Fault}::invalid())\n"
+    return f"{tests}        Err({other(t)})\n"
 
 
 def restricted(t):
@@ -110,7 +115,7 @@ def restricted(t):
         out.append(impl(N.Readable, t, {"laws": f"{word} (λ x. {value('x')})"}, reading(t, "read_value", body)))
     elif t.reads:
         arms = [(f"Ok(({v.value}, rest))", f"Ok(({t.name}::{v.name}, rest))") for v in t.variants]
-        arms += [] if {v.value for v in t.variants} == {"true", "false"} else [("Ok(_)", f"Err({N.Fault}::invalid())")]
+        arms += [] if {v.value for v in t.variants} == {"true", "false"} else [("Ok(_)", f"Err({other(t)})")]
         body = match_on(f"source.scalar::<{t.source}>(alloc)", [*arms, ("Err(fault)", "Err(fault)")])
         out.append(impl(N.Readable, t, {"laws": f"by_image (λ x. scalar ({content('x')}))"}, reading(t, "read_value", body)))
     if t.writes:
@@ -128,7 +133,7 @@ def scalar(t):
     if t.reads:
         arms = [(f"{N.Value}::{SCALARS[v.type][0]}(value)", f"Ok(({t.name}::{v.name}(value), rest))") for v in t.variants]
         body = f"        let (value, rest) = match source.untyped(alloc) {{\n{OPENED}"
-        body += match_on("value", [*arms, ("_", f"Err({N.Fault}::invalid())")])
+        body += match_on("value", [*arms, ("other", f"Err({N.Fault}::other(None, other.kind()))")])
         out.append(impl(N.Readable, t, {"laws": f"by_scalar (λ x. {content('x')})"}, reading(t, "read_value", body)))
     if t.writes:
         body = match_on("self", [(f"{t.name}::{v.name}(value)", "value.serialize(serializer)") for v in t.variants])

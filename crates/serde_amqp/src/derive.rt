@@ -12,6 +12,6 @@ pub use amqp_round_trip::{
     named_after_name_returns, named_composite_returns, named_parts_return, parts_return,
 };
 pub use amqp_ser::{Name, Serialize, SerializeCompounds, SerializeScalars, Serializer, VariantOf};
-pub use amqp_value::Value;
+pub use amqp_value::{Value, ValueKind};
 pub use std::alloc::Global;
 pub use std::marker::PhantomData;

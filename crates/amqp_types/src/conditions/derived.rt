@@ -2,7 +2,7 @@
 
 use super::{AmqpCondition, ConnectionCondition};
 use serde_amqp::derive::{
-    Fault, Global, Name, Readable, RoundTrip, Serialize, Serializer, Source, read_symbol,
+    Fault, Global, Name, Readable, RoundTrip, Serialize, Serializer, Source, ValueKind, read_symbol,
 };
 
 impl AmqpCondition {
@@ -110,7 +110,7 @@ impl Readable for AmqpCondition {
         let text = text.as_inner().as_str();
         match AmqpCondition::from_text(text) {
             Some(value) => Ok((value, rest)),
-            None => Err(Fault::invalid()),
+            None => Err(Fault::other(None, ValueKind::Symbol)),
         }
     }
 }
@@ -175,7 +175,7 @@ impl Readable for ConnectionCondition {
         if text == "amqp:connection:redirect" {
             return Ok((ConnectionCondition::Redirect, rest));
         }
-        Err(Fault::invalid())
+        Err(Fault::other(None, ValueKind::Symbol))
     }
 }
 

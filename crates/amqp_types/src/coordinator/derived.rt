@@ -4,8 +4,8 @@ use super::{AnyTarget, Coordinator, Multiple, Symbol, Target, TxnCapability};
 use serde_amqp::derive::{
     Composite, Either, Fault, Global, ListOf, Name, Never, OneOfTypes, Optional, PhantomData,
     Readable, Record, RoundTrip, RoundTripComposite, Serialize, SerializeCompounds, Serializer,
-    Shape, ShapeTree, Source, built, composite_returns, fields, named, parts_return, place,
-    read_shaped, read_symbol,
+    Shape, ShapeTree, Source, ValueKind, built, composite_returns, fields, named, parts_return,
+    place, read_shaped, read_symbol,
 };
 
 /// What a [`Coordinator`] is read from.
@@ -118,7 +118,7 @@ impl Readable for TxnCapability {
         if text == "amqp:multi-ssns-per-txn" {
             return Ok((TxnCapability::MultiSsnsPerTxn, rest));
         }
-        Err(Fault::invalid())
+        Err(Fault::other(None, ValueKind::Symbol))
     }
 }
 

@@ -2,7 +2,7 @@
 
 use super::{LinkCondition, SessionCondition, TransactionCondition};
 use serde_amqp::derive::{
-    Fault, Global, Name, Readable, RoundTrip, Serialize, Serializer, Source, read_symbol,
+    Fault, Global, Name, Readable, RoundTrip, Serialize, Serializer, Source, ValueKind, read_symbol,
 };
 
 impl SessionCondition {
@@ -55,7 +55,7 @@ impl Readable for SessionCondition {
         if text == "amqp:session:unattached-handle" {
             return Ok((SessionCondition::UnattachedHandle, rest));
         }
-        Err(Fault::invalid())
+        Err(Fault::other(None, ValueKind::Symbol))
     }
 }
 
@@ -125,7 +125,7 @@ impl Readable for LinkCondition {
         if text == "amqp:link:stolen" {
             return Ok((LinkCondition::Stolen, rest));
         }
-        Err(Fault::invalid())
+        Err(Fault::other(None, ValueKind::Symbol))
     }
 }
 
@@ -189,7 +189,7 @@ impl Readable for TransactionCondition {
         if text == "amqp:transaction:timeout" {
             return Ok((TransactionCondition::TransactionTimeout, rest));
         }
-        Err(Fault::invalid())
+        Err(Fault::other(None, ValueKind::Symbol))
     }
 }
 

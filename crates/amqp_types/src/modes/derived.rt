@@ -1,7 +1,9 @@
 //! tools/derive wrote this file from modes.rt: it is not edited by hand.
 
 use super::{ReceiverSettleMode, Role, SenderSettleMode};
-use serde_amqp::derive::{Fault, Global, Readable, RoundTrip, Serialize, Serializer, Source};
+use serde_amqp::derive::{
+    Fault, Global, Readable, RoundTrip, Serialize, Serializer, Source, ValueKind,
+};
 
 impl Readable for Role {
     ghost use Rattle.std.specs.Prelude.{Bool, true, false};
@@ -58,7 +60,7 @@ impl Readable for SenderSettleMode {
             Ok((0, rest)) => Ok((SenderSettleMode::Unsettled, rest)),
             Ok((1, rest)) => Ok((SenderSettleMode::Settled, rest)),
             Ok((2, rest)) => Ok((SenderSettleMode::Mixed, rest)),
-            Ok(_) => Err(Fault::invalid()),
+            Ok(_) => Err(Fault::other(None, ValueKind::Ubyte)),
             Err(fault) => Err(fault),
         }
     }
@@ -99,7 +101,7 @@ impl Readable for ReceiverSettleMode {
         match source.scalar::<u8>(alloc) {
             Ok((0, rest)) => Ok((ReceiverSettleMode::First, rest)),
             Ok((1, rest)) => Ok((ReceiverSettleMode::Second, rest)),
-            Ok(_) => Err(Fault::invalid()),
+            Ok(_) => Err(Fault::other(None, ValueKind::Ubyte)),
             Err(fault) => Err(fault),
         }
     }

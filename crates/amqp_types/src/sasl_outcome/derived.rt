@@ -3,8 +3,8 @@
 use super::{ByteBuf, SaslCode, SaslOutcome};
 use serde_amqp::derive::{
     Composite, Fault, Global, ListOf, Optional, Readable, Record, Required, RoundTrip,
-    RoundTripComposite, Serialize, SerializeCompounds, Serializer, Shape, ShapeTree, Source, built,
-    composite_returns, fields, named, read_shaped,
+    RoundTripComposite, Serialize, SerializeCompounds, Serializer, Shape, ShapeTree, Source,
+    ValueKind, built, composite_returns, fields, named, read_shaped,
 };
 
 /// What a [`SaslOutcome`] is read from.
@@ -85,7 +85,7 @@ impl Readable for SaslCode {
             Ok((2, rest)) => Ok((SaslCode::Sys, rest)),
             Ok((3, rest)) => Ok((SaslCode::SysPerm, rest)),
             Ok((4, rest)) => Ok((SaslCode::SysTemp, rest)),
-            Ok(_) => Err(Fault::invalid()),
+            Ok(_) => Err(Fault::other(None, ValueKind::Ubyte)),
             Err(fault) => Err(fault),
         }
     }

@@ -2,7 +2,7 @@
 
 use super::{DistributionMode, TerminusDurability, TerminusExpiryPolicy};
 use serde_amqp::derive::{
-    Fault, Global, Name, Readable, RoundTrip, Serialize, Serializer, Source, read_symbol,
+    Fault, Global, Name, Readable, RoundTrip, Serialize, Serializer, Source, ValueKind, read_symbol,
 };
 
 impl Readable for TerminusDurability {
@@ -24,7 +24,7 @@ impl Readable for TerminusDurability {
             Ok((0, rest)) => Ok((TerminusDurability::None, rest)),
             Ok((1, rest)) => Ok((TerminusDurability::Configuration, rest)),
             Ok((2, rest)) => Ok((TerminusDurability::UnsettledState, rest)),
-            Ok(_) => Err(Fault::invalid()),
+            Ok(_) => Err(Fault::other(None, ValueKind::Uint)),
             Err(fault) => Err(fault),
         }
     }
@@ -99,7 +99,7 @@ impl Readable for TerminusExpiryPolicy {
         if text == "never" {
             return Ok((TerminusExpiryPolicy::Never, rest));
         }
-        Err(Fault::invalid())
+        Err(Fault::other(None, ValueKind::Symbol))
     }
 }
 
@@ -157,7 +157,7 @@ impl Readable for DistributionMode {
         if text == "copy" {
             return Ok((DistributionMode::Copy, rest));
         }
-        Err(Fault::invalid())
+        Err(Fault::other(None, ValueKind::Symbol))
     }
 }
 
