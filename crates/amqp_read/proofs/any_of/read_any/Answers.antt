@@ -16,7 +16,7 @@ returns-in-Ok-read_as-clause-read g c =
 pub returns-in-Err-read_as-clause-read : goal.returns-in-Err-read_as-clause-read
 returns-in-Err-read_as-clause-read g c w =
     elim (c.in-Err-read_as.ensures.read (λ w. c.form_of.ensures) tt) [
-      | inl m ↦ inl m
+      | inl m ↦ inl (c.in_value.ensures ∙ m)
       | inr n ↦ inr (λ x h. n x (subst (λ t. OnNamed (g.F.FieldSeeds.reads c.args.fields x) t) (sym c.in-Ok.ensures.read.0) h))
     ]
 
@@ -27,7 +27,7 @@ pub returns-in-Ok-read_as-clause-law : goal.returns-in-Ok-read_as-clause-law
 returns-in-Ok-read_as-clause-law g c x p i = c.in-Ok-read_as.ensures.law (λ w. c.form_of.ensures) x p (subst (IsImage (g.F.FieldSeeds.names c.args.fields) (g.F.FieldSeeds.images x)) (sym c.in-Ok.ensures.read.0) i)
 
 pub returns-in-Err-read_as-clause-law : goal.returns-in-Err-read_as-clause-law
-returns-in-Err-read_as-clause-law g c x p i w = c.in-Err-read_as.ensures.law (λ w. c.form_of.ensures) x p (subst (IsImage (g.F.FieldSeeds.names c.args.fields) (g.F.FieldSeeds.images x)) (sym c.in-Ok.ensures.read.0) i) tt
+returns-in-Err-read_as-clause-law g c x p i w = c.in_value.ensures ∙ c.in-Err-read_as.ensures.law (λ w. c.form_of.ensures) x p (subst (IsImage (g.F.FieldSeeds.names c.args.fields) (g.F.FieldSeeds.images x)) (sym c.in-Ok.ensures.read.0) i) tt
 
 pub returns-in-Ok-read_as-2-clause-read : goal.returns-in-Ok-read_as-2-clause-read
 returns-in-Ok-read_as-2-clause-read g c =
