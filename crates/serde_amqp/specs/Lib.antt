@@ -62,7 +62,7 @@ pub use Rattle.amqp_value.specs.TreeOf
 pub use Rattle.amqp_value.specs.declared.value.Value
 pub use Rattle.amqp_decode.specs.Depth
 pub use Rattle.amqp_read.specs.Answers
-pub use Rattle.amqp_read.specs.Composites
+pub use Rattle.amqp_read.specs.Composites as ReadComposites
 pub use Rattle.amqp_read.specs.Defaults
 pub use Rattle.amqp_read.specs.Enums
 pub use Rattle.amqp_read.specs.Fields
