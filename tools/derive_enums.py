@@ -63,7 +63,7 @@ def described(t):
     if t.writes:
         arms = [(f"{t.name}::{v.name}(value)", "value.serialize(serializer)") for v in t.variants]
         out.append(impl(N.Serialize, t, {"tree": shape_tree(t)}, serialize(match_on("self", arms))))
-    return out + ([law(t, N.RoundTrip, "law", f"{N.parts_return}::<{t.name}, {t.name}Shape>()")] if t.round_trips else [])
+    return out + ([law(t, N.RoundTripReadable, "readable_law", f"{N.parts_return}::<{t.name}, {t.name}Shape>()")] if t.round_trips else [])
 
 
 def image(t, content, x):
@@ -123,7 +123,7 @@ def restricted(t):
         body = match_on("self", [(f"{t.name}::{v.name}", f"{v.value}{suffix}.serialize(serializer)") for v in t.variants]) if not text else \
             f"        {f'{N.Name}(self.as_str())' if t.source == 'Symbol' else 'self.as_str()'}.serialize(serializer)\n"
         out.append(impl(N.Serialize, t, {"tree": f"λ x. Some ({image(t, content, 'x')})"}, serialize(body)))
-    return out + ([law(t, N.RoundTrip, "law")] if t.round_trips else [])
+    return out + ([law(t, N.RoundTripReadable, "readable_law")] if t.round_trips else [])
 
 
 def scalar(t):
@@ -138,7 +138,7 @@ def scalar(t):
     if t.writes:
         body = match_on("self", [(f"{t.name}::{v.name}(value)", "value.serialize(serializer)") for v in t.variants])
         out.append(impl(N.Serialize, t, {"tree": f"λ x. Some ({image(t, content, 'x')})"}, serialize(body)))
-    out += [law(t, N.RoundTrip, "law")] if t.round_trips else []
+    out += [law(t, N.RoundTripReadable, "readable_law")] if t.round_trips else []
     return out + ([law(t, N.MapKey, "image_is_injective")] if "map_key" in t.flags else [])
 
 
@@ -212,7 +212,7 @@ def index(t):
         out.append(impl(N.Serialize, t, {"tree": index_tree(t)}, serialize(index_writes(t))))
     types = dict.fromkeys(f.type for v in t.variants for f in v.fields if f.type not in SCALARS) if t.round_trips else []
     calls = [f"<{type_} as {N.RoundTrip}>::law()" for type_ in types]
-    return out + ([law(t, N.RoundTrip, "law", f"{N.laws}::variants_return()", *calls)] if t.round_trips else [])
+    return out + ([law(t, N.RoundTripReadable, "readable_law", f"{N.laws}::variants_return()", *calls)] if t.round_trips else [])
 
 
 def enum_impls(t):

@@ -155,7 +155,7 @@ def round_trip(t):
     of = "composite_returns" if t.composite else "after_name_returns" if t.symbol and not t.code else "parts_return"
     call = f'{getattr(N, f"named_{of}" if t.by_name else of)}::<{t.name}, {t.name}Shape>(' + (f'"{t.symbol}")' if "name_" in of else ")")
     first = [f"{t.name}::names_are_distinct()"] if t.by_name else []
-    return law(t, *((N.RoundTripComposite, "composite_law") if t.composite else (N.RoundTrip, "law")), *first, call)
+    return law(t, *((N.RoundTripComposite, "composite_law") if t.composite else (N.RoundTripReadable, "readable_law")), *first, call)
 
 
 def defaults(t):

@@ -6,12 +6,12 @@ ghost use Rattle.amqp_read.specs.Branches.{either};
 ghost use Rattle.amqp_read.specs.Composites.{RestorableAlternative};
 ghost use Rattle.amqp_round_trip.specs.HasImage.{HasImage};
 
-use crate::round_trips::RoundTrip;
+use crate::round_trips::RoundTripReadable;
 use amqp_read::{Composite, Either, Never};
 use amqp_ser::Serialize;
 
 /// A composite that can be read from the untyped value that it is converted to. Each implements
-/// [`RoundTrip`].
+/// `RoundTrip`.
 ///
 /// # Implementer notes
 /// `composite_law` is required and does nothing. Its contract is the law. The body calls the
@@ -26,8 +26,8 @@ pub trait RoundTripComposite: Serialize + Composite {
 }
 
 /// A composite round-trips, after its code or its name.
-impl<T: RoundTripComposite> RoundTrip for T {
-    fn law() {
+impl<T: RoundTripComposite> RoundTripReadable for T {
+    fn readable_law() {
         T::composite_law();
     }
 }

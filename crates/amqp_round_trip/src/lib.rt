@@ -20,5 +20,5 @@ pub use returns::{
     after_name_returns, composite_returns, named_after_name_returns, named_composite_returns,
     named_parts_return, parts_return,
 };
-pub use round_trips::{RoundTrip, round_trip};
+pub use round_trips::{RoundTrip, RoundTripReadable, round_trip};
 pub use shapes::ShapeTree;

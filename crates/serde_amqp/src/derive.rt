@@ -8,8 +8,9 @@ pub use amqp_read::{
     Record, Required, Shape, Source, UnitVariant, read_shaped, read_string, read_symbol,
 };
 pub use amqp_round_trip::{
-    MapKey, RoundTrip, RoundTripComposite, ShapeTree, after_name_returns, composite_returns, laws,
-    named_after_name_returns, named_composite_returns, named_parts_return, parts_return,
+    MapKey, RoundTrip, RoundTripComposite, RoundTripReadable, ShapeTree, after_name_returns,
+    composite_returns, laws, named_after_name_returns, named_composite_returns, named_parts_return,
+    parts_return,
 };
 pub use amqp_ser::{Name, Serialize, SerializeCompounds, SerializeScalars, Serializer, VariantOf};
 pub use amqp_value::{Value, ValueKind};

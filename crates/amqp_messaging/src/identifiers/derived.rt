@@ -2,7 +2,7 @@
 
 use super::{Address, AnnotationKey, MessageId};
 use serde_amqp::derive::{
-    Fault, Global, MapKey, Readable, RoundTrip, Serialize, Serializer, Source, Value,
+    Fault, Global, MapKey, Readable, RoundTripReadable, Serialize, Serializer, Source, Value,
 };
 
 impl Readable for MessageId {
@@ -48,8 +48,8 @@ impl Serialize for MessageId {
     }
 }
 
-impl RoundTrip for MessageId {
-    fn law() {}
+impl RoundTripReadable for MessageId {
+    fn readable_law() {}
 }
 
 impl Readable for Address {
@@ -85,8 +85,8 @@ impl Serialize for Address {
     }
 }
 
-impl RoundTrip for Address {
-    fn law() {}
+impl RoundTripReadable for Address {
+    fn readable_law() {}
 }
 
 impl Serialize for AnnotationKey {

@@ -5,7 +5,7 @@ use super::{
     MessageAnnotations, Properties, Section, Unknown,
 };
 use serde_amqp::derive::{
-    Either, Fault, Global, OneOfTypes, PhantomData, Readable, Record, RoundTrip, Serialize,
+    Either, Fault, Global, OneOfTypes, PhantomData, Readable, Record, RoundTripReadable, Serialize,
     Serializer, Shape, ShapeTree, Source, parts_return, place, read_shaped,
 };
 
@@ -88,8 +88,8 @@ impl Serialize for Section {
     }
 }
 
-impl RoundTrip for Section {
-    fn law() {
+impl RoundTripReadable for Section {
+    fn readable_law() {
         parts_return::<Section, SectionShape>();
     }
 }

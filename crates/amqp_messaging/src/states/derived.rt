@@ -6,8 +6,9 @@ use super::{
 };
 use serde_amqp::derive::{
     Composite, Either, Fault, Global, ListOf, OneOfTypes, Optional, PhantomData, Readable, Record,
-    Required, RoundTrip, RoundTripComposite, Serialize, SerializeCompounds, Serializer, Shape,
-    ShapeTree, Source, built, composite_returns, fields, named, parts_return, place, read_shaped,
+    Required, RoundTripComposite, RoundTripReadable, Serialize, SerializeCompounds, Serializer,
+    Shape, ShapeTree, Source, built, composite_returns, fields, named, parts_return, place,
+    read_shaped,
 };
 
 /// What an [`Outcome`] is read from.
@@ -72,8 +73,8 @@ impl Serialize for Outcome {
     }
 }
 
-impl RoundTrip for Outcome {
-    fn law() {
+impl RoundTripReadable for Outcome {
+    fn readable_law() {
         parts_return::<Outcome, OutcomeShape>();
     }
 }
@@ -215,8 +216,8 @@ impl Serialize for DeliveryState {
     }
 }
 
-impl RoundTrip for DeliveryState {
-    fn law() {
+impl RoundTripReadable for DeliveryState {
+    fn readable_law() {
         parts_return::<DeliveryState, DeliveryStateShape>();
     }
 }

@@ -2,7 +2,8 @@
 
 use super::{AmqpCondition, ConnectionCondition};
 use serde_amqp::derive::{
-    Fault, Global, Name, Readable, RoundTrip, Serialize, Serializer, Source, ValueKind, read_symbol,
+    Fault, Global, Name, Readable, RoundTripReadable, Serialize, Serializer, Source, ValueKind,
+    read_symbol,
 };
 
 impl AmqpCondition {
@@ -125,8 +126,8 @@ impl Serialize for AmqpCondition {
     }
 }
 
-impl RoundTrip for AmqpCondition {
-    fn law() {}
+impl RoundTripReadable for AmqpCondition {
+    fn readable_law() {}
 }
 
 impl ConnectionCondition {
@@ -189,6 +190,6 @@ impl Serialize for ConnectionCondition {
     }
 }
 
-impl RoundTrip for ConnectionCondition {
-    fn law() {}
+impl RoundTripReadable for ConnectionCondition {
+    fn readable_law() {}
 }

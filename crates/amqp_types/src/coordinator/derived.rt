@@ -3,9 +3,9 @@
 use super::{AnyTarget, Coordinator, Multiple, Symbol, Target, TxnCapability};
 use serde_amqp::derive::{
     Composite, Either, Fault, Global, ListOf, Name, Never, OneOfTypes, Optional, PhantomData,
-    Readable, Record, RoundTrip, RoundTripComposite, Serialize, SerializeCompounds, Serializer,
-    Shape, ShapeTree, Source, ValueKind, built, composite_returns, fields, named, parts_return,
-    place, read_shaped, read_symbol,
+    Readable, Record, RoundTripComposite, RoundTripReadable, Serialize, SerializeCompounds,
+    Serializer, Shape, ShapeTree, Source, ValueKind, built, composite_returns, fields, named,
+    parts_return, place, read_shaped, read_symbol,
 };
 
 /// What a [`Coordinator`] is read from.
@@ -132,8 +132,8 @@ impl Serialize for TxnCapability {
     }
 }
 
-impl RoundTrip for TxnCapability {
-    fn law() {}
+impl RoundTripReadable for TxnCapability {
+    fn readable_law() {}
 }
 
 /// What an [`AnyTarget`] is read from.
@@ -186,8 +186,8 @@ impl Serialize for AnyTarget {
     }
 }
 
-impl RoundTrip for AnyTarget {
-    fn law() {
+impl RoundTripReadable for AnyTarget {
+    fn readable_law() {
         parts_return::<AnyTarget, AnyTargetShape>();
     }
 }

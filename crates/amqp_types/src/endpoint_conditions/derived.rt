@@ -2,7 +2,8 @@
 
 use super::{LinkCondition, SessionCondition, TransactionCondition};
 use serde_amqp::derive::{
-    Fault, Global, Name, Readable, RoundTrip, Serialize, Serializer, Source, ValueKind, read_symbol,
+    Fault, Global, Name, Readable, RoundTripReadable, Serialize, Serializer, Source, ValueKind,
+    read_symbol,
 };
 
 impl SessionCondition {
@@ -69,8 +70,8 @@ impl Serialize for SessionCondition {
     }
 }
 
-impl RoundTrip for SessionCondition {
-    fn law() {}
+impl RoundTripReadable for SessionCondition {
+    fn readable_law() {}
 }
 
 impl LinkCondition {
@@ -139,8 +140,8 @@ impl Serialize for LinkCondition {
     }
 }
 
-impl RoundTrip for LinkCondition {
-    fn law() {}
+impl RoundTripReadable for LinkCondition {
+    fn readable_law() {}
 }
 
 impl TransactionCondition {
@@ -203,6 +204,6 @@ impl Serialize for TransactionCondition {
     }
 }
 
-impl RoundTrip for TransactionCondition {
-    fn law() {}
+impl RoundTripReadable for TransactionCondition {
+    fn readable_law() {}
 }

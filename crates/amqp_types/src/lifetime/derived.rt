@@ -5,8 +5,8 @@ use super::{
 };
 use serde_amqp::derive::{
     Composite, Either, Fault, Global, ListOf, Never, OneOfTypes, PhantomData, Readable, Record,
-    RoundTrip, RoundTripComposite, Serialize, SerializeCompounds, Serializer, Shape, ShapeTree,
-    Source, built, composite_returns, fields, parts_return, place, read_shaped,
+    RoundTripComposite, RoundTripReadable, Serialize, SerializeCompounds, Serializer, Shape,
+    ShapeTree, Source, built, composite_returns, fields, parts_return, place, read_shaped,
 };
 
 /// What a [`DeleteOnClose`] is read from.
@@ -282,8 +282,8 @@ impl Serialize for LifetimePolicy {
     }
 }
 
-impl RoundTrip for LifetimePolicy {
-    fn law() {
+impl RoundTripReadable for LifetimePolicy {
+    fn readable_law() {
         parts_return::<LifetimePolicy, LifetimePolicyShape>();
     }
 }

@@ -2,7 +2,7 @@
 
 use super::{ReceiverSettleMode, Role, SenderSettleMode};
 use serde_amqp::derive::{
-    Fault, Global, Readable, RoundTrip, Serialize, Serializer, Source, ValueKind,
+    Fault, Global, Readable, RoundTripReadable, Serialize, Serializer, Source, ValueKind,
 };
 
 impl Readable for Role {
@@ -37,8 +37,8 @@ impl Serialize for Role {
     }
 }
 
-impl RoundTrip for Role {
-    fn law() {}
+impl RoundTripReadable for Role {
+    fn readable_law() {}
 }
 
 impl Readable for SenderSettleMode {
@@ -80,8 +80,8 @@ impl Serialize for SenderSettleMode {
     }
 }
 
-impl RoundTrip for SenderSettleMode {
-    fn law() {}
+impl RoundTripReadable for SenderSettleMode {
+    fn readable_law() {}
 }
 
 impl Readable for ReceiverSettleMode {
@@ -120,6 +120,6 @@ impl Serialize for ReceiverSettleMode {
     }
 }
 
-impl RoundTrip for ReceiverSettleMode {
-    fn law() {}
+impl RoundTripReadable for ReceiverSettleMode {
+    fn readable_law() {}
 }

@@ -4,7 +4,7 @@ use super::{
     Attach, Begin, Close, Detach, Disposition, End, Flow, Open, Performative, Transfer, Unknown,
 };
 use serde_amqp::derive::{
-    Either, Fault, Global, OneOfTypes, PhantomData, Readable, Record, RoundTrip, Serialize,
+    Either, Fault, Global, OneOfTypes, PhantomData, Readable, Record, RoundTripReadable, Serialize,
     Serializer, Shape, ShapeTree, Source, parts_return, place, read_shaped,
 };
 
@@ -86,8 +86,8 @@ impl Serialize for Performative {
     }
 }
 
-impl RoundTrip for Performative {
-    fn law() {
+impl RoundTripReadable for Performative {
+    fn readable_law() {
         parts_return::<Performative, PerformativeShape>();
     }
 }

@@ -4,7 +4,7 @@ use super::{
     SaslChallenge, SaslFrame, SaslInit, SaslMechanisms, SaslOutcome, SaslResponse, Unknown,
 };
 use serde_amqp::derive::{
-    Either, Fault, Global, OneOfTypes, PhantomData, Readable, Record, RoundTrip, Serialize,
+    Either, Fault, Global, OneOfTypes, PhantomData, Readable, Record, RoundTripReadable, Serialize,
     Serializer, Shape, ShapeTree, Source, parts_return, place, read_shaped,
 };
 
@@ -73,8 +73,8 @@ impl Serialize for SaslFrame {
     }
 }
 
-impl RoundTrip for SaslFrame {
-    fn law() {
+impl RoundTripReadable for SaslFrame {
+    fn readable_law() {
         parts_return::<SaslFrame, SaslFrameShape>();
     }
 }

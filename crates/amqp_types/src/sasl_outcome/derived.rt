@@ -2,8 +2,8 @@
 
 use super::{ByteBuf, SaslCode, SaslOutcome};
 use serde_amqp::derive::{
-    Composite, Fault, Global, ListOf, Optional, Readable, Record, Required, RoundTrip,
-    RoundTripComposite, Serialize, SerializeCompounds, Serializer, Shape, ShapeTree, Source,
+    Composite, Fault, Global, ListOf, Optional, Readable, Record, Required, RoundTripComposite,
+    RoundTripReadable, Serialize, SerializeCompounds, Serializer, Shape, ShapeTree, Source,
     ValueKind, built, composite_returns, fields, named, read_shaped,
 };
 
@@ -107,6 +107,6 @@ impl Serialize for SaslCode {
     }
 }
 
-impl RoundTrip for SaslCode {
-    fn law() {}
+impl RoundTripReadable for SaslCode {
+    fn readable_law() {}
 }

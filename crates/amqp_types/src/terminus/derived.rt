@@ -2,7 +2,8 @@
 
 use super::{DistributionMode, TerminusDurability, TerminusExpiryPolicy};
 use serde_amqp::derive::{
-    Fault, Global, Name, Readable, RoundTrip, Serialize, Serializer, Source, ValueKind, read_symbol,
+    Fault, Global, Name, Readable, RoundTripReadable, Serialize, Serializer, Source, ValueKind,
+    read_symbol,
 };
 
 impl Readable for TerminusDurability {
@@ -44,8 +45,8 @@ impl Serialize for TerminusDurability {
     }
 }
 
-impl RoundTrip for TerminusDurability {
-    fn law() {}
+impl RoundTripReadable for TerminusDurability {
+    fn readable_law() {}
 }
 
 impl TerminusExpiryPolicy {
@@ -113,8 +114,8 @@ impl Serialize for TerminusExpiryPolicy {
     }
 }
 
-impl RoundTrip for TerminusExpiryPolicy {
-    fn law() {}
+impl RoundTripReadable for TerminusExpiryPolicy {
+    fn readable_law() {}
 }
 
 impl DistributionMode {
@@ -171,6 +172,6 @@ impl Serialize for DistributionMode {
     }
 }
 
-impl RoundTrip for DistributionMode {
-    fn law() {}
+impl RoundTripReadable for DistributionMode {
+    fn readable_law() {}
 }

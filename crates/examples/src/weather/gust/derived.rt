@@ -2,9 +2,9 @@
 
 use super::Gust;
 use serde_amqp::derive::{
-    AfterCode, Fault, Global, ListOf, Optional, Readable, Record, Required, RoundTrip, Serialize,
-    SerializeCompounds, Serializer, Shape, ShapeTree, Source, built, fields, named, parts_return,
-    read_shaped,
+    AfterCode, Fault, Global, ListOf, Optional, Readable, Record, Required, RoundTripReadable,
+    Serialize, SerializeCompounds, Serializer, Shape, ShapeTree, Source, built, fields, named,
+    parts_return, read_shaped,
 };
 
 /// What a [`Gust`] is read from.
@@ -49,8 +49,8 @@ impl Serialize for Gust {
     }
 }
 
-impl RoundTrip for Gust {
-    fn law() {
+impl RoundTripReadable for Gust {
+    fn readable_law() {
         parts_return::<Gust, GustShape>();
     }
 }
