@@ -186,18 +186,20 @@ impl<'a> Source for Encoded<'a> {
         if elements.left == 0 {
             return None;
         }
-        if elements.constructor != 0 {
-            elements.left -= 1;
-            return Some(Encoded {
-                code: elements.constructor,
-                bytes: elements.bytes,
-                depth: elements.depth,
-            });
+        let mut code = elements.constructor;
+        let mut bytes = elements.bytes;
+        if code == 0 {
+            match bytes.split_first() {
+                Some((first, after)) => {
+                    code = *first;
+                    bytes = after;
+                }
+                None => return None,
+            }
         }
-        let (code, bytes) = elements.bytes.split_first()?;
         elements.left -= 1;
         Some(Encoded {
-            code: *code,
+            code,
             bytes,
             depth: elements.depth,
         })
