@@ -105,7 +105,9 @@ impl<'a> Source for Encoded<'a> {
 
     #[inline(always)]
     fn list(self) -> Result<(EncodedElements<'a>, &'a [u8]), Fault> {
-        let inside = self.inside()?;
+        let Some(inside) = self.inside() else {
+            return Err(Fault::gave_up());
+        };
         match split_list(self.code, self.bytes) {
             Ok((left, bytes, after)) => Ok((
                 EncodedElements {
@@ -122,7 +124,9 @@ impl<'a> Source for Encoded<'a> {
 
     #[inline(always)]
     fn array(self) -> Result<(EncodedElements<'a>, &'a [u8]), Fault> {
-        let inside = self.inside()?;
+        let Some(inside) = self.inside() else {
+            return Err(Fault::gave_up());
+        };
         match split_array(self.code, self.bytes) {
             Ok((left, constructor, bytes, after)) => {
                 if constructor == 0 {
@@ -144,7 +148,9 @@ impl<'a> Source for Encoded<'a> {
 
     #[inline(always)]
     fn map(self) -> Result<(EncodedEntries<'a>, &'a [u8]), Fault> {
-        let inside = self.inside()?;
+        let Some(inside) = self.inside() else {
+            return Err(Fault::gave_up());
+        };
         match split_map(self.code, self.bytes) {
             Ok((left, bytes, after)) => Ok((
                 EncodedEntries {
@@ -163,7 +169,9 @@ impl<'a> Source for Encoded<'a> {
         if self.code != 0 {
             return Err(Fault::gave_up());
         }
-        let inside = self.inside()?;
+        let Some(inside) = self.inside() else {
+            return Err(Fault::gave_up());
+        };
         let (descriptor, after) = match first_descriptor(alloc, self.bytes) {
             Ok(found) => found,
             Err(_) => return Err(Fault::gave_up()),
