@@ -1,6 +1,6 @@
 //! The errors of frames.
 
-use serde_amqp::{Error, SliceError};
+use serde_amqp::Error;
 use std::fmt;
 use std::fmt::{Formatter, Write};
 
@@ -22,9 +22,7 @@ pub enum FrameError {
     TooLong,
     /// The body does not begin with an encoded value.
     NoPerformative,
-    /// The performative cannot be read: where its bytes have a fault, or which field.
-    Performative(SliceError),
-    /// A performative cannot be written, an allocation failed, or a read failed.
+    /// A value cannot be read or written, an allocation failed, or a read failed.
     Value(Error),
 }
 
@@ -48,7 +46,6 @@ impl fmt::Display for FrameError {
             FrameError::OffsetPastEnd => f.write_str("data offset past the end of the frame"),
             FrameError::TooLong => f.write_str("frame longer than the limit"),
             FrameError::NoPerformative => f.write_str("no performative"),
-            FrameError::Performative(error) => error.fmt(f),
             FrameError::Value(error) => error.fmt(f),
         }
     }

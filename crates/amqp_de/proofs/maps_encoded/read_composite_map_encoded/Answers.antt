@@ -1,0 +1,10 @@
+use Rattle.amqp_ser.specs.Tree.{code}
+use Rattle.amqp_de.specs.Fields.{OnNamed}
+use Rattle.amqp_de.proofs.NamedFillings.{described_map_parts}
+use Rattle.amqp_de.proofs.maps_encoded.read_composite_map_encoded.Goals as goal
+
+pub returns-in-Ok : goal.returns-in-Ok
+returns-in-Ok g c =
+    described_map_parts g.T.Record.parts (λ t y. OnNamed (g.F.FieldSeeds.reads c.args.fields y) t) g.F.FieldSeeds.images g.F.FieldSeeds.restorable g.F.FieldSeeds.same
+    (g.F.FieldSeeds.names c.args.fields) g.T.NamedRecord.names c.requires c.args.depth c.in_ok-inside.inside _ _ _ (code c.args.wanted) c.in-Ok.values
+    c.in_ok-inner.ensures c.in_ok-inside.ensures c.in-Ok.ensures

@@ -1,0 +1,23 @@
+-- The contracts of public items use all of these modules but NextField and SortedHashes.
+pub mod Values
+pub mod Maps
+pub mod EncodedMaps
+pub mod SortedHashes
+pub mod Reads
+pub mod Fields
+pub mod Present
+pub mod Answers
+pub mod Errors
+pub mod ContentTree
+pub mod Kinds
+pub mod Enums
+pub mod Parts
+pub mod Defaults
+pub mod Multiple
+pub mod Composites
+pub mod Access
+pub mod Events
+pub mod Accepted
+pub mod Readings
+pub mod Encoded
+pub mod NextField

@@ -1,0 +1,4 @@
+-- Contracts of public items depend on all of these.
+pub mod DeserializerTrees
+pub mod Access
+pub mod Refusals
