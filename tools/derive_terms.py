@@ -1,124 +1,162 @@
-"""Terms of the logic that tools/derive prints: trees of fields, imports of definitions, applied members."""
+"""The text of impls: names of the library, terms of the logic, types, calls and functions."""
 
 import re
+import textwrap
 
-# the functions that give the tree of a field of this type
-WORDS = {
-    **{t: "of_" + t for t in "bool u8 u16 u32 u64 i8 i16 i32 i64 char".split()},
-    "String": "of_string", "Symbol": "of_symbol", "ByteBuf": "of_binary", "Timestamp": "of_timestamp",
-    "Uuid": "of_uuid", "F32Bits": "of_f32", "F64Bits": "of_f64", "Dec32": "of_dec32", "Dec64": "of_dec64",
-    "Dec128": "of_dec128",
-}
+WIDTH = 100
 # where the definitions are that a ghost member may name
 PLACES = (
-    ("std.specs.Prelude", "◌≡◌ Some [] ◌∷◌ List Option Bool ℕ true false codes string_bytes"),
+    ("std.specs.Prelude", "◌≡◌ Some [] ◌∷◌ List Option Bool ℕ true false codes string_bytes IfSome IfNone"),
     ("serde_amqp.specs.Derive",
-     "symbol_text byte_buf_bytes f32_bits f64_bits dec32_bytes dec64_bytes dec128_bytes milliseconds_of uuid_bytes optional "
-     "as_described tree_of_parts Tree Scalar code name described scalar list bool ubyte ushort uint ulong byte short int long "
-     "char float double decimal32 decimal64 decimal128 timestamp uuid binary string symbol basic_composite short_composite "
-     "list_composite short_list_of list_of short_map_of map_of required_value optional_value variant_of of_binary of_bool "
-     "of_char of_dec128 of_dec32 of_dec64 of_f32 of_f64 of_i16 of_i32 of_i64 of_i8 of_string of_symbol of_timestamp of_u16 "
-     "of_u32 of_u64 of_u8 of_uuid OnDescribed OnFields OnNamed ReadsRequired ReadsOptional NoMoreFields OnComposite "
-     "OnAlternatives ReadsDefaulted value_or OnEnum IsUnitVariant IsDataVariant IsNoVariant ◌▸◌ short_list short_map Always "
-     "This Other NewtypeVariant"),
+     "symbol_text byte_buf_bytes f32_bits f64_bits dec32_bytes dec64_bytes dec128_bytes milliseconds_of uuid_bytes optional Tree Scalar "
+     "code name scalar bool ubyte ushort uint ulong byte short int long char float double decimal32 decimal64 decimal128 timestamp uuid "
+     "binary string symbol as_described short_list_of list_of short_map_of required_value optional_value value_or ◌▸◌ by_parts by_names "
+     "by_image by_text by_string by_scalar tree_by_parts tree_by_names after_code after_code_by_names variant_of tree_of_parts "
+     "NewtypeVariant first second third fourth fifth sixth seventh eighth ninth tenth rest1 rest2 rest3 rest4 rest5 rest6 rest7 rest8 "
+     "rest9 rest10"),
 )
+# the types that every crate has
+PRELUDE = ("Box", "Option", "Result", "String", "Vec")
+SIGNS = {"◌≡◌": "≡", "◌∷◌": "∷", "◌▸◌": "▸", "[]": "[]"}
 
 
-def names_in(terms, names):
-    """Of the names of definitions, those that the terms contain."""
-    bare = re.sub(r'⟦[^⟧]*⟧\.\w+|"[^"]*"', "", terms)
-    symbols = {"◌≡◌": "≡", "◌∷◌": "∷", "◌▸◌": "▸", "[]": "[]"}
-    return [n for n in names.split()
-            if (symbols[n] in bare if n in symbols else re.search(rf"(?<![\w.«]){re.escape(n)}(?![\w»])", bare))]
+class Library:
+    """Names of `serde_amqp::derive`, as `N.Source`: imported by the printed file, unless its types are or hold other items of the name."""
+
+    def begin(self, text, types):
+        """Begins the file of the impls of these types, which the text of their file declares."""
+        uses = re.findall(r"^(?:pub(?:\([^)]*\))? )?use ([^;]*);", text, re.M)
+        words = lambda uses: {it for use in uses for it in re.findall(r"(?<=[\s:{,])\w+", use)}
+        known = words(uses) | set(re.findall(r"\b(?:struct|enum|type|trait|const|static|mod)\s+(\w+)", text))
+        fields = [f for t in types for f in t.fields + [f for v in t.variants for f in v.fields]]
+        held = {it for f in fields for it in re.findall(r"(?<![\w:])[A-Za-z_]\w*", f.type)}
+        self.of_file = {t.name for t in types} | {it for it in held if it in known or it[0].isupper() and it not in PRELUDE}
+        self.others = self.of_file - words(use for use in uses if use.startswith("serde_amqp::"))
+        self.used = set()
+
+    def __getattr__(self, name):
+        if name in self.others:
+            return f"serde_amqp::derive::{name}"
+        self.used.add(name)
+        return name
+
+    def imports(self, impls):
+        """The lines that import what the impls name: of the annotated file, and of the library."""
+        code = code_in(impls)
+        of_file = sorted(it for it in self.of_file if re.search(rf"(?<![\w:]){it}\b", code))
+        return f"use super::{{{', '.join(of_file)}}};\nuse serde_amqp::derive::{{{', '.join(sorted(self.used - self.of_file))}}};\n"
 
 
-def uses(terms):
-    """The lines that import what the terms name."""
-    lines = [f"    ghost use Rattle.{place}.{{{', '.join(found)}}};\n"
-             for place, names in PLACES if (found := names_in(terms, names))]
-    return "".join(lines)
+def code_in(text):
+    """The code of a printed text, without comments, texts and terms, but with what terms have in ⟦⟧."""
+    text = re.sub(r'//[^\n]*|"[^"]*"', "", text)
+    return re.sub(r"ghost use [^;]*;|ghost \w+ = \{.*?\};", lambda it: " ".join(re.findall("⟦[^⟧]*⟧", it.group())), text, flags=re.S)
 
 
-def ghosts(terms, more=""):
-    """The ghost members of an impl, after their imports."""
-    said = uses("\n".join(terms.values())) + more
-    return said + ("\n" if said else "") + "".join(f"    ghost {name} = {{ {term} }};\n\n" for name, term in terms.items())
+N = Library()
 
 
-def member(type_, trait, name):
+def filled(words, indent, first=None):
+    """The words on lines of at most 100 columns."""
+    text = " ".join(word.replace(" ", "\0") for word in words)
+    return textwrap.fill(text, WIDTH, initial_indent=indent if first is None else first, subsequent_indent=indent,
+                         break_long_words=False, break_on_hyphens=False).replace("\0", " ")
+
+
+def words_in(term):
+    """The words of a term: what is in ⟦⟧ is one, and so are a tree and its value, and a text and the word before it."""
+    return re.findall(r"\(*⟦[^⟧]*⟧(?:\.tree (?=[vx]))?\S*(?: };)?|\(*codes \"[^\"]*\"\S*|\S+ };|\S+", term)
+
+
+def rows_of(rows, indent):
+    return filled([row + "," for row in rows], indent)[:-1]
+
+
+def uses(terms, t):
+    """The lines that import what the terms name, among them the variants of an enum."""
+    bare = re.sub(r'⟦[^⟧]*⟧(\.\w+)+|"[^"]*"', "", terms)
+    has = lambda n: SIGNS[n] in bare if n in SIGNS else re.search(rf"(?<![\w.«]){n}(?![\w»])", bare)
+    out = ""
+    for place, names in PLACES:
+        head = f"    ghost use Rattle.{place}.{{"
+        found = rows_of([n for n in names.split() if has(n)], " " * len(head))
+        out += "".join(f"{head}{line.strip().rstrip(',')}}};\n" for line in found.split("\n") if line.strip())
+    return out + (f"    ghost use Rattle.{t.module}.{t.name}.TheVariants as variant;\n" if "variant." in terms else "")
+
+
+def member(name, term):
+    """A ghost member: on one line, or on several. What is in ⟦⟧ stays together, and so does a term by cases."""
+    line = f"    ghost {name} = {{ {term} }};"
+    return (line if "\n" in term or len(line) <= WIDTH else filled(words_in(line), " " * 8, "    ")) + "\n"
+
+
+def impl(trait, t, members, *functions, types=()):
+    """An impl: the imports of its ghost members, its types, its ghost members and its functions."""
+    items = [used] if (used := uses("\n".join(members.values()), t)) else []
+    items += [f"    type {name} = {value};\n" for name, value in types] + [member(*it) for it in members.items()]
+    return f"impl {trait} for {t.name} {{\n" + "\n".join([*items, *functions]) + "}\n"
+
+
+def function(name, arguments, result, body):
+    """A function of an impl."""
+    arrow = f" -> {result}" if result else ""
+    return f"    fn {name}({', '.join(arguments)}){arrow} {{" + (f"\n{body}    }}\n" if body else "}\n")
+
+
+def serialize(body):
+    return function(f"serialize<S: {N.Serializer}>", ["&self", "serializer: &mut S"], "Result<S::Ok, S::Error>", body)
+
+
+def reading(t, name, body):
+    """The function that reads a value, or what follows its descriptor. In line, the parts are not copied from call to call."""
+    hint = "    #[inline(always)]\n" * ("read_shaped" in body)
+    return hint + function(f"{name}<S: {N.Source}>", [f"alloc: {N.Global}", "source: S"], f"Result<({t.name}, S::Rest), {N.Fault}>", body)
+
+
+def law(t, trait, name, *calls):
+    return impl(trait, t, {}, function(name, [], "", "".join(f"        {call};\n" for call in calls)))
+
+
+def quote(type_, trait, name):
     return f"⟦<{type_} as {trait}>⟧.{name}"
 
 
-def tree_of(field):
-    """The function that gives the tree of a field's value."""
-    return WORDS.get(field.inner) or member(field.inner, "Serialize", "tree")
+def parts(t):
+    return quote(t.name, N.Record, "parts")
 
 
-def list_of(rows, indent="        "):
-    """The list of the rows, one a line."""
-    return f"\n{indent}∷ ".join([*rows, "[]"])
+def cases(arms, of="x", type_="_"):
+    """A term by cases on a value of the enum."""
+    rows = "".join(filled(words_in(f"| variant.{arm} ↦ {term}"), " " * 10, " " * 6) + "\n" for arm, term in arms)
+    return f"elim {of} as (λ _. {type_}) [\n{rows}    ]"
 
 
-def chain(values):
-    """The values of fields, in order."""
-    return " ▸ ".join([*values, "tt"])
+def aliases(name, steps, last):
+    """`type NAME = A<B, C<..>>;`, in as many aliases as lines of 100 columns need. A step is the text before the rest."""
+    whole = f"type {name} = {''.join(steps)}{last}{'>' * len(steps)};\n"
+    if len(whole) <= WIDTH + 1:
+        return [whole]
+    groups = [[]]
+    for step in steps:
+        line = f"type {name}00 = {''.join(groups[-1])}{step}{name}00{'>' * len(groups[-1])}>;"
+        if groups[-1] and len(line) > WIDTH:
+            groups.append([])
+        groups[-1].append(step)
+    names = [name] + [f"{name}{at}" for at in range(2, len(groups) + 1)] + [last]
+    return [f"type {names[at]} = {''.join(group)}{names[at + 1]}{'>' * len(group)};\n" for at, group in enumerate(groups)]
 
 
-def fields_type(fields):
-    """The type of the fields, as they are read."""
-    of = "()"
-    for f in reversed(fields):
-        of = f"{f.seed}<{f.inner}, {of}>"
-    return of
+def macro(head, rows, tail, indent):
+    """`head { rows }tail`, on one line or on several."""
+    line = f"{indent}{head} {{ {', '.join(rows)} }}{tail}" if rows else f"{indent}{head} {{}}{tail}"
+    return (line if len(line) <= WIDTH else f"{indent}{head} {{\n{rows_of(rows, indent + '    ')}\n{indent}}}{tail}") + "\n"
 
 
-def field_rows(fields, values, short, indent):
-    """`fields!` with a row for each field."""
-    rows = "".join(f'{indent}    "{f.name}"{"?" if f.optional and short else ""}: {value},\n' for f, value in zip(fields, values))
-    return f"fields! {{\n{rows}{indent}}}" if rows else "fields! {}"
-
-
-def named(fields):
-    """The seeds of the fields."""
-    marks = {"Required": lambda f: "", "Optional": lambda f: "?",
-             "Defaulted": lambda f: f" = {f.default}" + ("" if f.inner == "bool" else f.inner)}
-    return "named! { " + ", ".join(f'"{f.name}"{marks[f.seed](f)}' for f in fields) + " }" if fields else "()"
-
-
-def reads_fields(fields, values, on="OnFields"):
-    """Which trees are read as the values of the fields."""
-    rows = [f'Reads{f.seed} (codes "{f.name}") {f.default + " " if f.seed == "Defaulted" else ""}'
-            f'{member(f.inner, "Deserialize", "reads")} {value}' for f, value in zip(fields, values)]
-    rows = " (\n        ".join(rows) + "\n        " if rows else ""
-    return f"{on} (\n        {rows}NoMoreFields{')' * max(len(fields), 1)}" if rows else f"{on} NoMoreFields"
-
-
-def field_trees(fields, values, short):
-    """The trees of the fields."""
-    trees = []
-    for f, value in zip(fields, values):
-        if f.optional:
-            trees.append(f'{"optional_value" if short else "optional"} {tree_of(f)} {value}')
-        else:
-            trees.append(f"required_value ({tree_of(f)} {value})" if short else f"{tree_of(f)} {value}")
-    return trees
-
-
-def take(fields, call, indent="        "):
-    """The statements that take the values of fields apart."""
-    rest, out = "rest", ""
-    while rest in [f.var for f in fields]:
-        rest += "_"
-    for at, f in enumerate(fields):
-        last = "()" if f is fields[-1] else rest
-        value = f.var if f.var == "value" else f"value: {f.var}"
-        left = "rest" if last == "rest" else f"rest: {last}"
-        out += f"{indent}let FieldValues {{ {value}, {left} }} = {rest if at else call};\n"
-    return out or f"{indent}let () = {call};\n"
-
-
-def read_encoded(t, body, method="read_encoded"):
-    """The method that reads a value from its bytes in one pass, unless the provided one is to stay."""
-    if not t.one_pass:
-        return ""
-    return f"\n    fn {method}(alloc: Global, code: u8, input: &mut &[u8], depth: u16) -> Result<{t.name}, GaveUp> {{\n{body}    }}\n"
+def built(name, fields, is_tuple, indent, before="", after=""):
+    """The value of a struct or a variant, from the values of its fields."""
+    opens, closes = ("(", ")") if is_tuple else (" { ", " }") if fields else (" {", "}")
+    line = f"{indent}{before}{N.built}! {{ values => {name}{opens}{', '.join(f.var for f in fields)}{closes} }}{after}"
+    if len(line) > WIDTH:
+        line = f"{indent}{before}{N.built}! {{ values => {name}{opens.rstrip()}\n" \
+            f"{rows_of([f.var for f in fields], indent + '    ')}\n{indent}{closes.lstrip()} }}{after}"
+    return line + "\n"

@@ -5,9 +5,15 @@ import re
 STRUCT_ENCODINGS = ("list", "map", "basic")
 ENUM_ENCODINGS = ("described", "restricted", "scalar", "index")
 SOURCES = ("bool", "u8", "u16", "u32", "u64", "String", "Symbol")
-FLAGS = ("full", "by_name", "map_key", "others", "no_one_pass", "no_round_trip", "write_only", "read_only")
+FLAGS = ("full", "by_name", "map_key", "others", "no_round_trip", "write_only", "read_only")
 KEYS = ("encoding", "code", "name", "rename_all", "source", "values")
 DEFAULTED = ("bool", "u8", "u16", "u32", "u64")
+# what to write in place of a type that AMQP does not have
+INSTEAD = {
+    "f32": "`F32Bits`", "f64": "`F64Bits`", "usize": "`u32` or `u64`", "isize": "`i32` or `i64`", "u128": "`u64`, or `Uuid`",
+    "i128": "`i64`, or `Dec128`", "str": "`String`"}
+PRIMITIVE = ("bool", "char", "u8", "u16", "u32", "u64", "i8", "i16", "i32", "i64")
+MOST_PLAIN = 255
 SCALARS = DEFAULTED + ("i8", "i16", "i32", "i64", "char", "F32Bits", "F64Bits", "Dec32", "Dec64", "Dec128", "Timestamp", "Uuid", "ByteBuf", "String", "Symbol")
 NO_ROUND_TRIP = ("HashMap", "LazyValue")
 RESERVED = set("""data record deriving module where use mod pub package open as unfoldable abbrev axiom unfold unfolding
@@ -63,8 +69,9 @@ class Type:
         self.reads, self.writes = "write_only" not in flags, "read_only" not in flags
         self.round_trips = self.reads and self.writes and "no_round_trip" not in flags
         # a list without the absent fields at its end, a map without the absent fields
-        self.one_pass = "no_one_pass" not in flags
         self.short = self.encoding in ("list", "map") and "full" not in flags
+        # also read from a map by the names of the fields, which are distinct
+        self.by_name = self.encoding == "map" or "by_name" in flags
         # read after its code or its name: the trait Composite
         self.composite = bool(self.code and self.symbol) and not is_enum
         # written and read as its only field
@@ -128,6 +135,26 @@ def settings(line, text, keys, flags):
     return said, set_
 
 
+def type_of(line, name, text):
+    """The type of a field, which AMQP has."""
+    text = re.sub(r"\s+", " ", text.strip())
+    word = next((it for it in re.findall(r"(?<![:\w])[a-z]\w*(?!\w*\s*::)", text) if it not in PRIMITIVE and it not in ("mut", "dyn", "fn")), None)
+    if word:
+        raise Wrong(line, f"{name}: `{word}` is no type of AMQP" + (f": write {INSTEAD[word]}" if word in INSTEAD else ""))
+    if "&" in text:
+        raise Wrong(line, f"{name}: `{text}` is a reference: write the type itself, such as `ByteBuf` for `&[u8]`")
+    # as the module of the impls, which is one level down, names it
+    return re.sub(r"(?<![\w:])(super|self)::", lambda it: "super::super::" if it.group(1) == "super" else "super::", text)
+
+
+def number_of(line, what, type_, text):
+    """A number of this type, as it is printed."""
+    number = text.replace("_", "")
+    if not re.fullmatch("true|false" if type_ == "bool" else r"\d+", number) or type_ != "bool" and int(number) >= 1 << int(type_[1:]):
+        raise Wrong(line, f"{what} = {text} is no {type_}")
+    return number if type_ == "bool" else str(int(number))
+
+
 def text_of(line, said, key):
     if key in said:
         if not re.fullmatch(r'"[^"\\]*"', said[key]):
@@ -165,11 +192,14 @@ def annotation(line, text):
 
 
 def values_of(line, source, text):
-    form = {"bool": r"true|false", "String": r'"[^"\\]*"', "Symbol": r'"[^"\\]*"'}.get(source, r"\d+")
-    values = split(text[1:-1]) if text.startswith("[") and text.endswith("]") else [""]
-    for value in values:
-        if not re.fullmatch(form, value):
-            raise Wrong(line, f"values = {text} is no list of values of type {source}, in brackets")
+    values = split(text[1:-1]) if text.startswith("[") and text.endswith("]") else []
+    texts = source in ("String", "Symbol")
+    if not values or texts and not all(re.fullmatch(r'"[^"\\]*"', value) for value in values):
+        raise Wrong(line, f"values = {text} is no list of values of type {source}, in brackets")
+    if not texts:
+        values = [number_of(line, "values: a value", source, value) for value in values]
+    elif wrong := next((value for value in values if not value.isascii() or len(value) > MOST_PLAIN + 2), None):
+        raise Wrong(line, f"values: {wrong} is no text of at most {MOST_PLAIN} characters of ASCII")
     if len(set(values)) != len(values):
         raise Wrong(line, f"values = {text} has a value twice")
     return values
@@ -178,10 +208,10 @@ def values_of(line, source, text):
 HEAD = re.compile(r"(?:\s*(?:#\[[^\n]*\]|//[^\n]*)\n|\s*\n)*\s*(?:pub(?:\([^)]*\))?\s+)?(struct|enum)\s+(\w+)(\s*<)?\s*([({;]?)")
 
 
-def body_of(text):
-    """The text up to the bracket that closes the body, without comments and attributes other than annotations."""
-    marked = re.sub(r"//\s*amqp:\s*([^\n]*)", lambda m: "@" + m.group(1).strip().encode().hex() + "@", text)
-    marked = re.sub(r"//[^\n]*|#\[[^\n]*\]", "", marked)
+def body_of(text, line):
+    """The text up to the bracket that closes the body, without comments and attributes, and with the annotations and their lines in `@`."""
+    own = lambda m: f"@{line + text[:m.start()].count(chr(10))} {m.group(1).strip().encode().hex()}@"
+    marked = re.sub(r"//[^\n]*|#\[[^\n]*\]", "", re.sub(r"// amqp: ([^\n]*)", own, text))
     depth = 1
     for at, char in enumerate(marked):
         depth += char in "({["
@@ -195,22 +225,23 @@ def fields_of(t, text, is_tuple):
     """The fields in the text of a struct's or a variant's body."""
     fields = []
     for place, part in enumerate(split(text)):
-        own = re.match(r"@([^@]*)@\s*", part)
-        said, flags = {}, set()
+        own = re.match(r"@(\d+) (\w*)@\s*", part)
+        line, said, flags = t.line, {}, set()
         if own:
-            said, flags = settings(t.line, bytes.fromhex(own.group(1)).decode(), ("name", "default"), ("default",))
-            text_of(t.line, said, "name")
-            part = part[own.end():]
-        part = re.sub(r"^pub(\([^)]*\))?\s+", "", part)
-        member, type_ = (str(place), part) if is_tuple else (p.strip() for p in part.split(":", 1))
+            line, part = int(own.group(1)), part[own.end():]
+            said, flags = settings(line, bytes.fromhex(own.group(2)).decode(), ("name", "default"), ("default",))
+            text_of(line, said, "name")
+        member, colon, type_ = (str(place), ":", part) if is_tuple else re.sub(r"^pub(\([^)]*\))?\s+", "", part).partition(":")
+        if not re.fullmatch(r"\w+", member.strip()) or not type_.strip():
+            raise Wrong(line, f"{t.name}: `{part}` is no field: expected `name: type`")
+        member, type_ = member.strip(), type_of(line, f"{t.name}.{member.strip()}", re.sub(r"^pub(\([^)]*\))?\s+", "", type_.strip()))
         name = said.get("name") or (RENAMES[t.rename](member) if t.rename and not is_tuple else member)
-        field = Field(t.line, member, f"part{place}" if is_tuple else member, name, re.sub(r"\s+", " ", type_))
+        field = Field(line, member, f"part{place}" if is_tuple else member, name, type_)
         if "default" in said or flags:
             if field.inner not in DEFAULTED:
-                raise Wrong(t.line, f"{t.name}.{member}: default is for {', '.join(DEFAULTED)} or an Option of one")
-            field.default = said.get("default", "false" if field.inner == "bool" else "0").replace("_", "")
-            if not re.fullmatch("true|false" if field.inner == "bool" else r"\d+", field.default):
-                raise Wrong(t.line, f"{t.name}.{member}: default = {said['default']} is no {field.inner}")
+                raise Wrong(line, f"{t.name}.{member}: default is for {', '.join(DEFAULTED)} or an Option of one")
+            default = said.get("default", "false" if field.inner == "bool" else "0")
+            field.default = number_of(line, f"{t.name}.{member}: default", field.inner, default)
         fields.append(field)
     return fields
 
@@ -218,7 +249,8 @@ def fields_of(t, text, is_tuple):
 def variant_of(t, part, value):
     form = re.fullmatch(r"(\w+)\s*(?:([({])(.*)[)}])?", part.strip(), re.S)
     if not form:
-        raise Wrong(t.line, f"{t.name}: `{part.strip()}` is no variant")
+        said = re.match(r"@(\d+)", part.strip())
+        raise Wrong(int(said.group(1)) if said else t.line, f"{t.name}: an annotation is for a type or a field" if said else f"{t.name}: `{part.strip()}` is no variant")
     name, opens, inside = form.groups()
     fields = fields_of(t, inside, opens == "(") if opens else []
     kind = "unit" if not opens else "struct" if opens == "{" else "newtype" if len(fields) == 1 else "tuple"
@@ -236,7 +268,9 @@ def check(t):
     line, n = t.line, t.name
     if t.encoding == "basic" and len(t.fields) != 1:
         raise Wrong(line, f'{n}: encoding = "basic" is for one field, and it has {len(t.fields)}')
-    if t.encoding == "map" and len({f.name for f in t.fields}) != len(t.fields):
+    if twice := next((f.member for at, f in enumerate(t.fields) if f.member in {it.member for it in t.fields[:at]}), None):
+        raise Wrong(line, f"{n} has two fields `{twice}`")
+    if t.by_name and len({f.name for f in t.fields}) != len(t.fields):
         raise Wrong(line, f"{n} has two fields of one name")
     if t.is_enum and not t.variants:
         raise Wrong(line, f"{n} has no variants")
@@ -245,53 +279,48 @@ def check(t):
     if "map_key" in t.flags and t.encoding != "scalar" and not t.transparent:
         raise Wrong(line, 'map_key is for encoding = "scalar", and for "basic" without a descriptor')
     for f in t.fields + [f for v in t.variants for f in v.fields]:
-        if float_ := re.search(r"\bf(32|64)\b", f.type):
-            raise Wrong(line, f"{n}: the type of a float is F{float_.group(1)}Bits, not f{float_.group(1)}")
         if t.round_trips and any(re.search(rf"\b{name}\b", f.type) for name in NO_ROUND_TRIP):
             raise Wrong(line, f"{n}: {f.type} does not round-trip: add no_round_trip")
 
 
-def wide(t):
-    """Whether the struct has more required scalars than those with which the prover finds the round trip by the laws: seven."""
-    return t.round_trips and not t.is_enum and sum(not f.optional and f.type in SCALARS for f in t.fields) > 7
-
-
-def mixed(t):
-    """Whether optional fields of a list are both before a required field and after all of them, where the prover may miss a computed round trip."""
-    kinds = "".join("o" if f.optional else "r" for f in t.fields)
-    return t.encoding == "list" and t.short and kinds.endswith("o") and "or" in kinds
+def type_at(number, text, said, flags):
+    """The annotated type that begins the text, which follows the line of its annotation, and the line of its end."""
+    head = HEAD.match(text)
+    if not head:
+        raise Wrong(number, "expected a struct or an enum after the annotation")
+    is_enum, name, opens = head.group(1) == "enum", head.group(2), head.group(4)
+    if head.group(3):
+        raise Wrong(number, f"{name} has type parameters: write its impls by hand")
+    t = Type(number, name, is_enum, opens == "(", said, flags)
+    if is_enum != (t.encoding in ENUM_ENCODINGS):
+        known = " or ".join(ENUM_ENCODINGS if is_enum else STRUCT_ENCODINGS)
+        raise Wrong(number, f'{name} is {"an enum" if is_enum else "a struct"}, whose encoding is {known}, not "{t.encoding}"')
+    start = number + 1 + head.group(0).count("\n")
+    body = body_of(text[head.end():], start) if opens in ("(", "{") else ""
+    if is_enum:
+        parts = split(body)
+        if t.values and len(t.values) != len(parts):
+            raise Wrong(number, f"{name} has {len(parts)} variants and {len(t.values)} values")
+        t.variants = [variant_of(t, part, t.values and t.values[at]) for at, part in enumerate(parts)]
+    else:
+        t.fields = fields_of(t, body, t.is_tuple)
+    check(t)
+    return t, start + body.count("\n")
 
 
 def types_of(text):
     """The annotated types of a file, in order."""
-    lines = text.split("\n")
-    found = []
+    lines, found, end = text.split("\n"), [], 0
     for number, line in enumerate(lines, 1):
-        said = re.match(r"// amqp: (?!the impls below|end of the impls)(.*)", line)
-        if not said:
+        if not re.match(r"\s*//[/!]*\s*amqp\s*:", line):
             continue
-        said, flags = annotation(number, said.group(1))
-        rest = "\n".join(lines[number:])
-        head = HEAD.match(rest)
-        if not head:
-            raise Wrong(number, "expected a struct or an enum after the annotation")
-        is_enum, name, opens = head.group(1) == "enum", head.group(2), head.group(4)
-        if head.group(3):
-            raise Wrong(number, f"{name} has type parameters: write its impls by hand")
-        t = Type(number, name, is_enum, opens == "(", said, flags)
-        if is_enum != (t.encoding in ENUM_ENCODINGS):
-            known = " or ".join(ENUM_ENCODINGS if is_enum else STRUCT_ENCODINGS)
-            raise Wrong(number, f'{name} is {"an enum" if is_enum else "a struct"}, whose encoding is {known}, not "{t.encoding}"')
-        body = body_of(rest[head.end():]) if opens in ("(", "{") else ""
-        if is_enum:
-            parts = split(body)
-            if t.values and len(t.values) != len(parts):
-                raise Wrong(number, f"{name} has {len(parts)} variants and {len(t.values)} values")
-            t.variants = [variant_of(t, part, t.values and t.values[at]) for at, part in enumerate(parts)]
-        else:
-            t.fields = fields_of(t, body, t.is_tuple)
-        check(t)
-        found.append(t)
+        if not re.match(r"\s*// amqp: \S", line):
+            raise Wrong(number, 'an annotation is written as `// amqp: ..`, with these blanks')
+        if number > end and line.startswith(" "):
+            raise Wrong(number, "this annotation is above no type and no field of an annotated type")
+        if number > end:
+            t, end = type_at(number, "\n".join(lines[number:]), *annotation(number, line[9:]))
+            found.append(t)
     of_file = {t.name: t for t in found}
     for t in found:
         for v in t.variants if t.encoding == "described" else []:

@@ -62,8 +62,9 @@ class Site:
                 self.by_name.setdefault(name, []).append(item)
                 self.members[id(item)] = {it.name for found in members_of(self, module, item).values() for _, it in found}
 
-    def is_home(self, page, item):
-        return self.homes[id(item)][0] is page
+    def is_home(self, page, name, item):
+        """Whether the entry of an item is under this name of this page. A page may hand out an item under two names."""
+        return self.homes[id(item)] == (page, name)
 
     def paths(self, item):
         return [f"{page.name()}::{name}" for page in self.pages for name, _, it in page.entries if it is item]
@@ -135,7 +136,7 @@ def commented(site):
     for page in site.pages:
         found.append((f"{page.module.file_name()}:1", page.name(), bool(page.module.comment)))
         for name, module, item in page.entries:
-            if site.is_home(page, item):
+            if site.is_home(page, name, item):
                 found.append((f"{module.file_name()}:{item.line}", f"{page.name()}::{name}", bool(item.comment)))
                 for members in members_of(site, module, item).values():
                     found += [(f"{owner.file_name()}:{it.line}", f"{page.name()}::{name}::{it.name}", bool(it.comment)) for owner, it in members]

@@ -32,14 +32,14 @@ REFUSED = "<out of memory>"
 HEADERS = 167
 # The requests that the calls of the rows of `read` make in one pass, and for the tables of headers of the lazy values that are read
 # and written on the way.
-ONE_PASS = 270
+ONE_PASS = 297
 # Of the rows of `read` whose type has an `OrderedMap`: one for each that is read from an untyped value.
 RESERVED = 7
 # Two for the hashes of each of two maps that are decoded. For each of the four calls of the rows of `read`: two for the hashes of each
 # of two maps, decoded or made by `to_value`; two for the hashes of an `OrderedMap`; one for each of two lists. One for the room of an
 # `OrderedMap`. And 14 of tables of headers, and 5 in each of three passes over the list of lists. And the requests of the calls of the
 # rows of `read` that read in one pass.
-OPTIONAL = 66 + 297
+OPTIONAL = 66 + 296
 
 
 def run(rows, **refused):

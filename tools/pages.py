@@ -147,7 +147,7 @@ def page_html(site, page):
             made += [tag("h2", title), "<dl>", *rows, "</dl>"]
     for entries in groups.values():
         for name, module, item in entries:
-            if site.is_home(page, item):
+            if site.is_home(page, name, item):
                 made += entry_html(site, page, name, module, item)
     return framed(site, page, page.name(), made)
 
@@ -172,7 +172,7 @@ def index_html(site, version):
     rows = []
     for page in site.pages:
         for name, module, item in page.entries:
-            if site.is_home(page, item):
+            if site.is_home(page, name, item):
                 rows.append((site.anchor(item), f"{page.file()}#{site.anchor(item)}", f"{WORDS.get(item.kind, item.kind)} in {page.name()}"))
                 for members in members_of(site, module, item).values():
                     rows += [(f"{name}::{it.name}", f"{page.file()}#{site.anchor(item, it.name)}", MEMBER_WORDS.get(it.kind, it.kind)) for _, it in members]

@@ -11,7 +11,7 @@ The crate [amqp_types](src/lib.rt) has these types, most from the crates below i
 
 
 def page(table):
-    out = PAGE + "\n`from_slice` reads them in [one pass](../../docs/TYPES.md#from-bytes-in-one-pass), but those marked \\*, and what contains one of them.\n"
+    out = PAGE
     for part, name in PARTS.items():
         types = sorted((t for t in table.types.values() if t.part == part), key=by_section)
         out += f"\n## Part {part}: {name}\n"
@@ -19,19 +19,14 @@ def page(table):
         if described:
             out += "\n|Type|Code|Section|Fields|\n|---|---|---|---|\n"
         for t in described:
-            out += f"|{name_of(t)}|{t.code}|{t.section}|{fields(table, t)}|\n"
+            out += f"|`{t.rust}`|{t.code}|{t.section}|{fields(table, t)}|\n"
         others = [t for t in types if not t.code]
         if others:
             out += "\n|Type|Section|Values|\n|---|---|---|\n"
             for t in others:
-                out += f"|{name_of(t)}|{t.section}|{values(table, t)}|\n"
+                out += f"|`{t.rust}`|{t.section}|{values(table, t)}|\n"
     rows = ", ".join(f"`{name}` is `{table.rust(name)}`" for name in table.aliases)
     return f"{out}\n## Other names\n\nOf the types of fields, {rows}.\n"
-
-
-def name_of(t):
-    slow = t.kind in ("list", "section", "described") and not t.one_pass
-    return f"`{t.rust}`" + " \\*" * slow
 
 
 def by_section(t):

@@ -33,11 +33,6 @@ def derive(t):
     return f"#[derive({DERIVE['choice' if t.kind == 'choice' else 'key' if t.key else '']})]\n"
 
 
-def pass_(t):
-    """The flag of a type that is read through an untyped value."""
-    return "" if t.one_pass else ", no_one_pass"
-
-
 def field_type(table, f):
     type_ = table.rust(f.type)
     type_ = f"Multiple<{type_}>" if f.multiple else type_
@@ -51,7 +46,7 @@ def is_plain(f):
 
 def struct(table, t):
     rename = ', rename_all = "kebab-case"' if t.fields else ""
-    out = f'// amqp: encoding = "list", code = {t.code}, name = "{t.symbol}"{rename}{pass_(t)}\n{derive(t)}'
+    out = f'// amqp: encoding = "list", code = {t.code}, name = "{t.symbol}"{rename}\n{derive(t)}'
     if not t.fields:
         return out + f"pub struct {t.rust};\n"
     rows = ""
@@ -77,7 +72,6 @@ def variant(f):
 
 def enum(table, t):
     flags = ", map_key, write_only" if t.key else ", others" if t.others else ""
-    flags += pass_(t) if t.kind == "described" else ""
     rows = ""
     for f in t.fields:
         comment = f.comment or table.types[f.type].comment
@@ -88,7 +82,7 @@ def enum(table, t):
 
 
 def section(table, t):
-    return f'// amqp: encoding = "basic", code = {t.code}, name = "{t.symbol}"{pass_(t)}\n{derive(t)}pub struct {t.rust}(pub {table.rust(t.source)});\n'
+    return f'// amqp: encoding = "basic", code = {t.code}, name = "{t.symbol}"\n{derive(t)}pub struct {t.rust}(pub {table.rust(t.source)});\n'
 
 
 def defaults(table, t):
@@ -130,4 +124,4 @@ def module_file(table, module):
             path = f"crate::{m.name}" if m.crate == module.crate else m.crate
             names[path] = [*names.get(path, []), *(t.rust for t in m.types)]
     uses = "".join(sorted(import_of(path, [name for name in of if name in used]) for path, of in names.items()))
-    return f"//! {module.comment}\n\n{uses}" + ("\n" if uses else "") + body + "\n"
+    return f"//! {module.comment}\n\nmod derived;\n\n{uses}" + ("\n" if uses else "") + body

@@ -40,7 +40,7 @@ class Type:
         self.rust = words[words.index("as") + 1] if "as" in words else pascal(self.name)
         self.code, self.symbol = (words[2], words[3]) if self.kind in ("list", "section") else (None, None)
         self.source = {"choice": 2, "section": 4}.get(self.kind) and words[{"choice": 2, "section": 4}[self.kind]]
-        self.key, self.others, self.one_pass = ("key" in words[2:]), ("others" in words[2:]), ("one-pass" in words[2:])
+        self.key, self.others = "key" in words[2:], "others" in words[2:]
         self.module = None
 
     @property

@@ -1,16 +1,16 @@
 -- What is returned for bytes within limits, from what is returned for the tree that they encode.
-use Rattle.std.proofs.Common.{◌≡◌, ◌≤◌, inl, inr, ℕ, List, Option, None, IfSome, length, sym, subst, arith}
+use Rattle.std.proofs.Common.{◌≡◌, ◌≤◌, inl, inr, ℕ, suc, List, [], Option, Some, None, IfSome, length, sym, subst, arith}
 use Rattle.std.specs.Io.KnownBytes.{Consumes}
 use Rattle.amqp_data.specs.declared.error.Error.{Error}
 use Rattle.amqp_frame.specs.Frame.{IsFrame}
 use Rattle.amqp_ser.specs.Tree.{Tree}
-use Rattle.amqp_decode.proofs.Whole.{one-tree}
+use Rattle.amqp_decode.proofs.Whole.{one-tree, spelled}
+use Rattle.amqp_decode.specs.Parsed.{parse}
 use Rattle.amqp_decode.specs.Spells.{Spells}
 use Rattle.amqp_decode.specs.WithoutBytes.{elements_without_bytes}
-use Rattle.amqp_de.specs.Answers.{Refuses}
+use Rattle.amqp_read.specs.Answers.{Refuses}
 use Rattle.amqp_from_slice.specs.Entries.{entry_count}
 use Rattle.amqp_from_slice.specs.Limited.{IsAllowed, ReadsAllowed, RefusesNextAllowed, levels}
-use Rattle.amqp_from_slice.specs.ReadsSpelled.{ReadsSpelled}
 use Rattle.amqp_from_slice.specs.declared.limited.Limits.{Limits}
 use Rattle.amqp_from_slice.proofs.SpelledLemmas.{IsMemory}
 
@@ -30,10 +30,17 @@ pub refused_next_allowed : {T : Type 0} (R : Tree → T → Type 0) (l : Limits)
 refused_next_allowed R l old new before after bs cs e frame taken same refused =
     inr (bs, frame, taken, subst (λ b. Refuses IsMemory (ReadsAllowed R l b) e) same refused)
 
--- bytes without such elements are within the limits if they are short enough, with any number of entries
-pub plain-allowed : {T : Type 0} (R : Tree → T → Type 0) (l : Limits) (bs : List ℕ) (x : T) → length bs ≤ l.bytes → 256 ≤ l.depth → l.entries ≡ None → ((d : ℕ) → elements_without_bytes d bs ≡ 0)
-    → ReadsSpelled R bs x → ReadsAllowed R l bs x
-plain-allowed R l bs x short deep any none (t, spelled, r) =
-    let same : levels l ≡ 256 = omega (arith, deep) in
-    let few : elements_without_bytes (levels l) bs ≤ l.elements = omega (arith, none (levels l)) in
-    (t, (short, few, subst (λ d. Spells d bs t) (sym same) spelled, subst (λ n. IfSome n (λ m. entry_count t ≤ m)) (sym any) tt), r)
+-- bytes that are read with as many levels as the limits permit are within the limits if they are short enough, with any number of entries
+pub read-allowed : {T : Type 0} (R : Tree → T → Type 0) (l : Limits) (bs : List ℕ) (d : ℕ) (t : Tree) (x : T) → length bs ≤ l.bytes → suc d ≡ levels l → l.entries ≡ None
+    → parse (suc d) bs ≡ Some (t, []) → elements_without_bytes (suc d) bs ≡ 0 → R t x → ReadsAllowed R l bs x
+read-allowed R l bs d t x short deep any parsed none r =
+    let few : elements_without_bytes (suc d) bs ≤ l.elements = omega (arith, none) in (
+      t,
+      (
+        short,
+        subst (λ n. elements_without_bytes n bs ≤ l.elements) deep few,
+        subst (λ n. Spells n bs t) deep (spelled (suc d) bs t parsed),
+        subst (λ n. IfSome n (λ m. entry_count t ≤ m)) (sym any) tt,
+      ),
+      r,
+    )

@@ -7,8 +7,9 @@ use Rattle.amqp_frame.specs.Frame.{IsFrame}
 use Rattle.amqp_ser.specs.Tree.{Tree}
 use Rattle.amqp_decode.specs.Spells.{Spells}
 use Rattle.amqp_decode.proofs.Whole.{one-tree}
-use Rattle.amqp_de.specs.Answers.{Refuses}
-use Rattle.amqp_from_slice.specs.ReadsSpelled.{ReadsSpelled, RefusesNext}
+use Rattle.amqp_read.specs.Answers.{Refuses}
+use Rattle.amqp_from_slice.specs.ReadsSpelled.{RefusesNext}
+use Rattle.amqp_read.specs.Spelled.{ReadsSpelled}
 
 abbrev pub IsMemory : Error → Type 0
 IsMemory e = e ≡ error.OutOfMemory

@@ -1,6 +1,5 @@
--- Contracts of public items rest on them, except on Arrays.
+-- Contracts of public items rest on them.
 pub mod ReadsSpelled
 pub mod Entries
 pub mod Limited
 pub mod LocatedErrors
-pub mod Arrays

@@ -8,7 +8,7 @@ use Rattle.amqp_frame.specs.Taking.{RefusesWithin}
 use Rattle.amqp_ser.specs.Tree.{Tree}
 use Rattle.amqp_decode.specs.Spells.{Spells}
 use Rattle.amqp_decode.specs.WithoutBytes.{elements_without_bytes}
-use Rattle.amqp_de.specs.Answers.{Refuses}
+use Rattle.amqp_read.specs.Answers.{Refuses}
 use Rattle.amqp_from_slice.specs.Entries.{entry_count}
 use Rattle.amqp_from_slice.specs.declared.limited.Limits.{Limits}
 

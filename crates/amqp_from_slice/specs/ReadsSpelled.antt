@@ -10,12 +10,8 @@ use Rattle.amqp_ser.specs.Ranged.{IsRanged}
 use Rattle.amqp_ser.specs.Tree.{Tree}
 use Rattle.amqp_ser.specs.Writable.{writable}
 use Rattle.amqp_decode.specs.Depth.{IsOrdinary, depth_of}
-use Rattle.amqp_decode.specs.Spells.{Spells}
-use Rattle.amqp_de.specs.Answers.{Refuses}
-
--- The bytes encode a tree that is read as x.
-abbrev pub ReadsSpelled : {T : Type 0} → (Tree → T → Type 0) → List ℕ → T → Type 0
-ReadsSpelled R bytes x = (t : Tree) × Spells 256 bytes t × R t x
+use Rattle.amqp_read.specs.Answers.{Refuses}
+use Rattle.amqp_read.specs.Spelled.{ReadsSpelled}
 
 -- One encoded value was consumed, and it is read as x.
 abbrev pub ReadsNext : {T : Type 0} → (Tree → T → Type 0) → Option (List ℕ) → Option (List ℕ) → T → Type 0

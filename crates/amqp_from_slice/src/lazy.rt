@@ -5,14 +5,13 @@ ghost use Rattle.amqp_data.specs.declared.error.Error.TheVariants.{OutOfMemory};
 ghost use Rattle.amqp_ser.specs.Tree.{Tree};
 ghost use Rattle.amqp_decode.specs.Faults.{DecodeFails};
 ghost use Rattle.amqp_decode.specs.Spells.{Spells};
-ghost use Rattle.amqp_de.specs.Answers.{Answers};
-ghost use Rattle.amqp_from_value.specs.Refusals.{IsOfReading};
-ghost use Rattle.amqp_from_slice.specs.ReadsSpelled.{ReadsSpelled};
+ghost use Rattle.amqp_read.specs.Answers.{Answers};
+ghost use Rattle.amqp_read.specs.Spelled.{IsOfReading};
+ghost use Rattle.amqp_read.specs.Spelled.{ReadsSpelled};
 
-use crate::read::from_slice;
 use amqp_data::Error;
-use amqp_de::de::Deserialize;
 use amqp_frame::LazyValue;
+use amqp_read::{Deserialize, from_slice};
 use std::alloc::Global;
 
 /// Reading a type from a lazy value, as a method.

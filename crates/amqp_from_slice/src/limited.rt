@@ -7,19 +7,16 @@ ghost use Rattle.amqp_ser.specs.Tree.{Tree};
 ghost use Rattle.amqp_value.specs.TreeOf.{tree_of};
 ghost use Rattle.amqp_decode.specs.Spells.{Spells};
 ghost use Rattle.amqp_decode.specs.WithoutBytes.{elements_without_bytes};
-ghost use Rattle.amqp_de.specs.Answers.{Answers};
-ghost use Rattle.amqp_de.specs.Encoded.{Reading};
-ghost use Rattle.amqp_from_value.specs.Refusals.{IsOfReading};
+ghost use Rattle.amqp_read.specs.Answers.{Answers};
+ghost use Rattle.amqp_read.specs.Results.{Reading};
+ghost use Rattle.amqp_read.specs.Spelled.{IsOfReading};
 ghost use Rattle.amqp_from_slice.specs.Limited.{IsAllowed, ReadsAllowed, for_length, levels};
 ghost use Rattle.amqp_from_slice.specs.Limited.{limits_for};
 
 use crate::entries::has_entries_within;
-use crate::plain::all_elements_have_bytes;
-use crate::read::read_at_once;
 use amqp_data::Error;
-use amqp_de::de::Deserialize;
 use amqp_decode::{decode_value_limited, decode_value_to_depth};
-use amqp_from_value::from_value;
+use amqp_read::{Deserialize, from_value, read_bytes};
 use amqp_value::Value;
 use std::alloc::Global;
 
@@ -86,9 +83,9 @@ pub fn from_slice_with<T: Deserialize>(
     }
 }
 
-// Returns these limits, or for `None` those for the length of the bytes.
+/// Returns these limits, or for `None` those for the length of the bytes.
 #[inline(always)]
-fn limits_or_default(limits: Option<Limits>, bytes: &[u8]) -> Limits
+pub(crate) fn limits_or_default(limits: Option<Limits>, bytes: &[u8]) -> Limits
     ensures { result ≡ limits_for limits bytes.now }
 {
     match limits {
@@ -125,7 +122,7 @@ pub fn from_slice_limited<T: Deserialize>(
         MatchResult result (λ y. T.same y x) (λ e. e ≡ OutOfMemory) }
     ensures kind { IfErr result (λ e. (t : Tree) → Spells 256 bytes.now t → IsOfReading e) }
 {
-    if let Some(read) = read_plain::<T>(alloc, bytes, limits) {
+    if let Some(read) = read_in_one_pass::<T>(alloc, bytes, limits) {
         return Ok(read);
     }
     match decode_limited(alloc, bytes, limits) {
@@ -139,37 +136,28 @@ pub fn from_slice_limited<T: Deserialize>(
     }
 }
 
-// Reads a `T` without an untyped value from bytes in which no array of elements without bytes can
-// begin. Returns `None` for others, and if that fails.
-fn read_plain<T: Deserialize>(alloc: Global, bytes: &[u8], limits: Limits) -> Option<T>
+/// Reads a `T` in one pass, which has no array elements without bytes, without a limit of entries.
+/// Returns `None` if that fails.
+pub(crate) fn read_in_one_pass<T: Deserialize>(
+    alloc: Global,
+    bytes: &[u8],
+    limits: Limits,
+) -> Option<T>
     ensures { IfSome result (λ x. ReadsAllowed
         (Reading T.reads T.image T.restorable T.same) limits bytes.now x) }
 {
-    if !is_within(bytes, limits) {
+    let depth = limits.depth.min(256);
+    if bytes.len() > limits.bytes || depth == 0 || limits.entries.is_some() {
         return None;
     }
-    match read_at_once::<T>(alloc, bytes) {
+    match read_bytes::<T>(alloc, bytes, depth - 1) {
         Some(read) => Some(read),
         None => None,
     }
 }
 
-// Returns true if it is certain that the bytes are within the limits, whatever value they encode.
-fn is_within(bytes: &[u8], limits: Limits) -> bool
-    ensures short { OnTrue result (length bytes.now ≤ limits.bytes) }
-    ensures deep { OnTrue result (256 ≤ limits.depth) }
-    ensures any { OnTrue result (limits.entries ≡ None) }
-    ensures none { OnTrue result ((depth : ℕ) → elements_without_bytes depth bytes.now ≡ 0) }
-{
-    if bytes.len() <= limits.bytes && limits.depth >= 256 && limits.entries.is_none() {
-        all_elements_have_bytes(bytes)
-    } else {
-        false
-    }
-}
-
-// Decodes one encoded value within limits.
-fn decode_limited(alloc: Global, bytes: &[u8], limits: Limits) -> Result<Value, Error>
+/// Decodes one encoded value within limits.
+pub(crate) fn decode_limited(alloc: Global, bytes: &[u8], limits: Limits) -> Result<Value, Error>
     ensures ok { IfOk result (λ v. IsAllowed limits bytes.now (tree_of v)) }
     ensures err { IfErr result (λ e. ¬ (e ≡ OutOfMemory) →
         (t : Tree) → ¬ IsAllowed limits bytes.now t) }

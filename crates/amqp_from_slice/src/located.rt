@@ -3,16 +3,19 @@
 ghost use Rattle.std.specs.Prelude.{◌≡◌, IfErr, MatchResult};
 ghost use Rattle.amqp_data.specs.declared.error.Error.TheVariants.{OutOfMemory};
 ghost use Rattle.amqp_decode.specs.Spells.{Spells};
-ghost use Rattle.amqp_de.specs.Answers.{Answers};
+ghost use Rattle.amqp_read.specs.Answers.{Answers};
 ghost use Rattle.amqp_from_slice.specs.LocatedErrors.{IsLocatedIn, error_in};
-ghost use Rattle.amqp_from_slice.specs.ReadsSpelled.{ReadsSpelled};
+ghost use Rattle.amqp_read.specs.Spelled.{ReadsSpelled};
 
-use crate::read::read_at_once;
 use amqp_data::Error;
-use amqp_de::de::Deserialize;
 use amqp_decode::{Located, decode_value_located};
-use amqp_from_value::{ReadError, from_value_located};
+use amqp_read::{Deserialize, Fault, from_value_located, read_bytes};
 use std::alloc::Global;
+use std::fmt;
+use std::fmt::{Formatter, Write};
+
+/// The maximum number of levels inside the value.
+const MOST_LEVELS: u16 = 255;
 
 /// An error of reading from bytes, with its place.
 #[derive(Debug, PartialEq, Eq, Drop)]
@@ -20,7 +23,7 @@ pub enum SliceError {
     /// The bytes encode no value: where they have their first fault.
     Bytes(Located),
     /// The bytes encode a value of which the type cannot be read: which field.
-    Value(ReadError),
+    Value(Fault),
 }
 
 impl SliceError {
@@ -36,7 +39,23 @@ impl SliceError {
     {
         match self {
             SliceError::Bytes(located) => located.error,
-            SliceError::Value(error) => error.error,
+            SliceError::Value(fault) => fault.into_error(),
+        }
+    }
+}
+
+/// The text of the error, and its place: `invalid format code at byte 17`.
+impl fmt::Display for SliceError {
+    fn fmt<W: Write>(&self, f: &mut Formatter<W>) -> fmt::Result {
+        match self {
+            SliceError::Bytes(located) => {
+                located.error.fmt(f)?;
+                match &located.place {
+                    Some(place) => write!(f, " at byte {}", place.offset),
+                    None => Ok(()),
+                }
+            }
+            SliceError::Value(fault) => fault.fmt(f),
         }
     }
 }
@@ -62,7 +81,7 @@ pub fn from_slice_located<T: Deserialize>(alloc: Global, bytes: &[u8]) -> Result
         MatchResult result (λ y. T.same y x) (λ e. error_in e ≡ OutOfMemory) }
     ensures place { IfErr result (IsLocatedIn bytes.now) }
 {
-    match read_at_once::<T>(alloc, bytes) {
+    match read_bytes::<T>(alloc, bytes, MOST_LEVELS) {
         Some(read) => Ok(read),
         None => read_by_value_located::<T>(alloc, bytes),
     }
@@ -79,7 +98,7 @@ fn read_by_value_located<T: Deserialize>(alloc: Global, bytes: &[u8]) -> Result<
     match decode_value_located(alloc, bytes) {
         Ok(value) => match from_value_located::<T>(alloc, value) {
             Ok(read) => Ok(read),
-            Err(error) => Err(SliceError::Value(error)),
+            Err(fault) => Err(SliceError::Value(fault)),
         },
         Err(located) => Err(SliceError::Bytes(located)),
     }

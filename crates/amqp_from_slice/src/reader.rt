@@ -6,10 +6,9 @@ ghost use Rattle.amqp_from_slice.specs.Limited.{ReadsNextAllowed, RefusesNextAll
 ghost use Rattle.amqp_from_slice.specs.ReadsSpelled.{ReadsNext, RefusesNext};
 
 use crate::limited::{Limits, from_slice_limited};
-use crate::read::from_slice;
 use amqp_data::Error;
-use amqp_de::de::Deserialize;
 use amqp_frame::{LazyValue, Read};
+use amqp_read::{Deserialize, from_slice};
 use std::alloc::Global;
 
 /// Reads a `T` from the next encoded value of a reader. The bytes after it remain in the reader.

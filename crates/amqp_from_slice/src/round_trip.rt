@@ -5,8 +5,8 @@ ghost use Rattle.amqp_data.specs.declared.error.Error.TheVariants.{OutOfMemory};
 ghost use Rattle.amqp_from_slice.specs.ReadsSpelled.{HasDecodable};
 
 use crate::laws::bytes_have_the_image;
-use crate::read::from_slice;
 use amqp_data::Error;
+use amqp_read::from_slice;
 use amqp_round_trip::RoundTrip;
 use amqp_wire::to_vec;
 use std::alloc::Global;

@@ -7,6 +7,7 @@ use Rattle.amqp_ser.specs.SizeAndBytes.{AreBytesOf}
 use Rattle.amqp_ser.specs.Tree.{Tree}
 use Rattle.amqp_from_slice.specs.Limited.{ReadsAllowed, limits_for}
 use Rattle.amqp_from_slice.specs.declared.limited.Limits.{Limits}
+use Rattle.amqp_from_slice.specs.declared.located.SliceError.{SliceError}
 use Rattle.amqp_messaging.specs.Parts.{RefusesParts}
 use Rattle.amqp_messaging.specs.declared.bodies.AmqpSequence.{AmqpSequence}
 use Rattle.amqp_messaging.specs.declared.bodies.AmqpValue.{AmqpValue}
@@ -37,13 +38,13 @@ ReadsBody limits D S V s (body.Data v) = ReadsAll limits D s (transparent_items 
 ReadsBody limits D S V s (body.Sequence v) = ReadsAll limits S s (transparent_items v)
 ReadsBody limits D S V s (body.Value x) = ReadsWithin limits V s x
 
--- A section cannot be read, or an allocation failed.
-abbrev pub IsValueError : MessageError → Type 0
-IsValueError e = (f : Error) × (e ≡ error.Value f)
+-- A section cannot be read.
+abbrev pub IsUnread : MessageError → Type 0
+IsUnread e = (f : SliceError) × (e ≡ error.Section f)
 
 -- Why the bytes are not read as a message: they have not its parts, or one cannot be read.
 abbrev pub RefusesMessage : List ℕ → MessageError → Type 0
-RefusesMessage s e = RefusesParts s e ⊎ IsValueError e
+RefusesMessage s e = RefusesParts s e ⊎ IsUnread e
 
 -- The bytes are these with the encoding of the tree after them.
 abbrev pub PutsTree : Option Tree → List ℕ → List ℕ → Type 0

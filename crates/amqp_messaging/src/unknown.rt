@@ -5,13 +5,12 @@ ghost use Rattle.amqp_data.specs.declared.error.Error.TheVariants.{OutOfMemory};
 ghost use Rattle.amqp_ser.specs.Carried.{descriptor_content};
 ghost use Rattle.amqp_messaging.specs.Unknown.{code_of, IsCode};
 
-use serde_amqp::derive::{
-    Alternatives, Deserialize, DeserializeError, Deserializer, Global, RoundTrip,
-    RoundTripAlternatives, Serialize, Serializer,
-};
+use serde_amqp::de::Alternatives;
+use serde_amqp::derive::{Deserialize, Fault, Global, RoundTrip, Serialize, Serializer, Source};
 use serde_amqp::described::Described;
 use serde_amqp::descriptor::Descriptor;
 use serde_amqp::primitives::Symbol;
+use serde_amqp::value::RoundTripAlternatives;
 use serde_amqp::{Error, Value};
 
 /// A described value whose descriptor a choice of types does not have: the descriptor, and the
@@ -66,17 +65,17 @@ impl Alternatives for Unknown {
     ghost same = { λ x y. (descriptor_content x.0.descriptor ≡ descriptor_content y.0.descriptor)
         × ⟦<Value as Deserialize>⟧.same x.0.value y.0.value };
 
-    fn read_after<D: Deserializer>(
+    fn read_after<S: Source>(
         alloc: Global,
         descriptor: &Descriptor,
-        deserializer: D,
-    ) -> Result<Unknown, D::Error> {
+        source: S,
+    ) -> Result<(Unknown, S::Rest), Fault> {
         let Ok(descriptor) = copy(alloc, descriptor) else {
-            return Err(D::Error::out_of_memory());
+            return Err(Fault::memory());
         };
-        match <Value as Deserialize>::deserialize(alloc, deserializer) {
-            Ok(value) => Ok(Unknown(Described { descriptor, value })),
-            Err(error) => Err(error),
+        match source.untyped(alloc) {
+            Ok((value, rest)) => Ok((Unknown(Described { descriptor, value }), rest)),
+            Err(fault) => Err(fault),
         }
     }
 }

@@ -1,9 +1,10 @@
 -- The image of one of several composites.
 use Rattle.std.specs.Prelude.{ℕ, Option}
 use Rattle.amqp_ser.specs.Tree.{Tree, code, described}
-use Rattle.amqp_de.specs.Composites.{either, RestorableAlternative}
-use Rattle.amqp_de.specs.declared.enums.variants.Either.{Either}
-use Rattle.amqp_de.specs.declared.enums.variants.Either.TheVariants.{This, Other}
+use Rattle.amqp_read.specs.Branches.{either}
+use Rattle.amqp_read.specs.Composites.{RestorableAlternative}
+use Rattle.amqp_read.specs.declared.branches.Either.{Either}
+use Rattle.amqp_read.specs.declared.branches.Either.TheVariants.{This, Other}
 use Rattle.amqp_round_trip.specs.HasImage.{HasImage}
 
 pub either_stands : {A R : Type 0} (tree : A → Option Tree) (trees : R → Option Tree) (c : ℕ) (code_of : R → ℕ) (f : A → Tree) (g : R → Tree) (P : A → Type 0) (Q : R → Type 0) →

@@ -1,7 +1,7 @@
 -- The images of fields, of which absent ones are omitted.
-use Rattle.std.proofs.Common.{◌≡◌, ◌∙◌, ℕ, Bool, true, false, true≢false, List, [], ◌∷◌, Option, Some, None, map, refl, sym, ap, subst}
+use Rattle.std.proofs.Common.{◌≡◌, ◌∙◌, ℕ, Bool, true, false, true≢false, List, [], ◌∷◌, Option, Some, map, refl, sym, ap, subst}
 use Rattle.std.proofs.lemmas.Cmp.{nat_list_eq_equiv}
-use Rattle.std.specs.Prelude.{◌||◌, ◌&&◌, not, if◌then◌else◌, bytes_eq}
+use Rattle.std.specs.Prelude.{if◌then◌else◌, bytes_eq}
 use Rattle.std.specs.List.{AllByRecursion}
 use Rattle.std.specs.Map.{keys_of}
 use Rattle.amqp_ser.specs.Compounds.{parts_of, tree_of_parts}
@@ -10,9 +10,9 @@ use Rattle.amqp_ser.specs.Tree as tree
 use Rattle.amqp_ser.specs.Tree.{Tree, scalar, string, trees_of}
 use Rattle.amqp_ser.specs.declared.kind.CompoundKind.TheVariants as kind
 use Rattle.amqp_value.specs.TreeOf.{pairs_of}
-use Rattle.amqp_de.specs.Maps.{pair_image, IsPair}
-use Rattle.amqp_de.specs.Present.{any_there, distinct_names, has_name, short_list, short_map, present_fields, up_to_last}
-use Rattle.amqp_de.proofs.LeftOut.{not_and, or_false}
+use Rattle.amqp_read.specs.Maps.{pair_image, IsPair}
+use Rattle.amqp_read.specs.Present.{distinct_names, has_name, short_list, short_map, present_fields, up_to_last}
+use Rattle.amqp_read.proofs.LeftOut.{not_and, or_false}
 use Rattle.amqp_round_trip.proofs.KeyLemmas.{HaveDistinctImages}
 use Rattle.amqp_round_trip.proofs.MapLemmas.{map_stands}
 use Rattle.amqp_round_trip.proofs.HasImageLemmas.{list_stands}

@@ -1,12 +1,12 @@
 -- The images of compounds of fields, from the images of the fields.
-use Rattle.std.proofs.Common.{◌≡◌, ℕ, Bool, true, List, [], ◌∷◌, Option, Some, refl, subst}
+use Rattle.std.proofs.Common.{◌≡◌, ℕ, Bool, true, List, [], ◌∷◌, Option, refl, subst}
 use Rattle.std.specs.Prelude.{◌||◌, if◌then◌else◌}
 use Rattle.amqp_ser.specs.Named as ser
 use Rattle.amqp_ser.specs.Named.{named_parts, string_key}
 use Rattle.amqp_ser.specs.Tree.{Tree, scalar, string, list, trees_of}
 use Rattle.amqp_ser.specs.Words.{list_of, short_list_of, short_map_of}
-use Rattle.amqp_de.specs.Present as de
-use Rattle.amqp_de.specs.Present.{all_images, distinct_names, present_fields, short_list, short_map}
+use Rattle.amqp_read.specs.Present as de
+use Rattle.amqp_read.specs.Present.{all_images, distinct_names, present_fields, short_list, short_map}
 use Rattle.amqp_round_trip.proofs.FieldLemmas.{short_list_stands, short_map_stands, kept_stands, may_by}
 use Rattle.amqp_round_trip.proofs.HasImageLemmas.{list_stands}
 use Rattle.amqp_round_trip.specs.HasImage.{HasImage, HaveImages, EntriesHaveImages, FieldsHaveImages}

@@ -9,9 +9,9 @@ use Rattle.amqp_ser.specs.Marked.{with_marker}
 use Rattle.amqp_ser.specs.Tree.{Descriptor, Tree, Trees, list, array, described, no_trees, more, trees_of}
 use Rattle.amqp_ser.specs.declared.kind.CompoundKind.TheVariants as kind
 use Rattle.amqp_ser.specs.declared.marker.Marker.TheVariants as marker
-use Rattle.amqp_to_value.specs.HasLazy.{has_lazy, has_lazy_each}
+use Rattle.amqp_to_value.specs.HasLazy.{has_lazy_each}
 use Rattle.amqp_value.specs.Image.{images, variant_map}
-use Rattle.amqp_de.specs.Reads.{image_option, RestorableOption}
+use Rattle.amqp_read.specs.Reads.{image_option, RestorableOption}
 use Rattle.amqp_round_trip.specs.HasImage.{HasImage, HaveImages}
 
 -- There are trees, they contain nothing lazy, and these are their images.

@@ -8,8 +8,8 @@ use Rattle.std.specs.declared.cmp.Ordering.{Ordering}
 use Rattle.std.specs.declared.cmp.Ordering.TheVariants.{Equal, Greater}
 use Rattle.amqp_ser.specs.Tree.{Tree, trees_of}
 use Rattle.amqp_value.specs.TreeOf.{pairs_of}
-use Rattle.amqp_de.specs.Maps.{pair_image, IsPair, SamePair, EachBefore, ForAllSame, AreDistinct, Ascend}
-use Rattle.amqp_de.specs.Reads.{image_option, RestorableOption, SameOption}
+use Rattle.amqp_read.specs.Maps.{pair_image, IsPair, SamePair, EachBefore, ForAllSame, AreDistinct, Ascend}
+use Rattle.amqp_read.specs.Reads.{image_option, RestorableOption, SameOption}
 
 -- No two keys have the same image.
 abbrev pub HaveDistinctImages : {K : Type 0} → (K → Tree) → List K → Type 0

@@ -9,11 +9,11 @@ use Rattle.amqp_ser.specs.Tree as tree
 use Rattle.amqp_ser.specs.Tree.{Tree, Trees, Pairs, no_pairs, pair}
 use Rattle.amqp_ser.specs.declared.kind.CompoundKind.TheVariants as kind
 use Rattle.amqp_to_value.specs.HasLazy.{has_lazy, has_lazy_pairs}
-use Rattle.amqp_value.specs.Image.{image, images_onto, insert_tree}
+use Rattle.amqp_value.specs.Image.{images_onto, insert_tree}
 use Rattle.amqp_value.specs.TreeOf.{pairs_of}
 use Rattle.amqp_value.proofs.ImageLemmas.{joined, joined_assoc, joined_none, Lacks, insert_tree-new}
 use Rattle.amqp_value.proofs.SameLemmas.{same-equal}
-use Rattle.amqp_de.specs.Maps.{pair_image, IsPair}
+use Rattle.amqp_read.specs.Maps.{pair_image, IsPair}
 use Rattle.amqp_round_trip.proofs.KeyLemmas.{HaveDistinctImages}
 use Rattle.amqp_round_trip.specs.HasImage.{HasImage}
 

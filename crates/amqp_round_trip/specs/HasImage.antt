@@ -3,7 +3,7 @@ use Rattle.std.specs.Prelude.{◌≡◌, ℕ, List, [], ◌∷◌, Option, Some,
 use Rattle.amqp_ser.specs.Tree.{Tree, Trees, no_trees, more}
 use Rattle.amqp_to_value.specs.HasLazy.{has_lazy}
 use Rattle.amqp_value.specs.Image.{image}
-use Rattle.amqp_de.specs.Present.{present_fields}
+use Rattle.amqp_read.specs.Present.{present_fields}
 
 -- There is a tree, it contains nothing lazy, and this is its image.
 abbrev pub HasImage : Option Tree → Tree → Type 0

@@ -2,28 +2,40 @@
 
 ghost use Rattle.std.specs.Prelude.{ℕ, Option, None};
 ghost use Rattle.amqp_ser.specs.Tree.{Tree, code, described, scalar, null};
-ghost use Rattle.amqp_de.specs.Composites.{either, RestorableAlternative};
+ghost use Rattle.amqp_read.specs.Branches.{either};
+ghost use Rattle.amqp_read.specs.Composites.{RestorableAlternative};
 ghost use Rattle.amqp_round_trip.specs.HasImage.{HasImage};
 
-use amqp_de::{Composite, Either, Never};
+use crate::round_trips::RoundTripReadable;
+use amqp_read::{Composite, Either, Never};
 use amqp_ser::Serialize;
 
-/// A composite that can be read from the untyped value that it is converted to.
+/// A composite that can be read from the untyped value that it is converted to. Each implements
+/// `RoundTrip`.
 ///
 /// # Implementer notes
-/// `composite_law` is required and does nothing. Its contract is the law.
+/// `composite_law` is required and does nothing. Its contract is the law. The body calls the
+/// function that states it for the shape of the type, such as
+/// [`composite_returns`](crate::composite_returns).
 pub trait RoundTripComposite: Serialize + Composite {
     /// States that a restorable value has a tree, which contains nothing lazy, and that the tree's
     /// image is the image declared for the value, after the code.
     fn composite_law()
-        ensures { (x : Self) → Self.restorable x →
-            HasImage (Self.tree x) (described (code Self.descriptor_code) (Self.image x)) };
+        ensures { (x : Self) → Self.body.restorable x →
+            HasImage (Self.tree x) (described (code Self.descriptor_code) (Self.body.image x)) };
+}
+
+/// A composite round-trips, after its code or its name.
+impl<T: RoundTripComposite> RoundTripReadable for T {
+    fn readable_law() {
+        T::composite_law();
+    }
 }
 
 /// One of several such composites.
 ///
-/// The members but `trees` are those of `Alternatives` of the same type, stated again. As a subtrait,
-/// each composite would bring both traits of all composites after it into a check.
+/// The members but `trees` are those of `Alternatives` of the same type, stated again. As a
+/// subtrait, each composite would bring both traits of all composites after it into a check.
 ///
 /// # Implementer notes
 /// `law` is required and does nothing. Its contract is the law.
@@ -64,9 +76,10 @@ impl<T: RoundTripComposite, R: RoundTripAlternatives> RoundTripAlternatives for 
 
     ghost code_of = { either (λ _. T.descriptor_code) R.code_of };
 
-    ghost image = { either T.image R.image };
+    ghost image = { either T.body.image R.image };
 
-    ghost restorable = { RestorableAlternative T.descriptor_code R.code_of T.restorable R.restorable };
+    ghost restorable = { RestorableAlternative T.descriptor_code R.code_of T.body.restorable
+        R.restorable };
 
     fn law() {
         T::composite_law();

@@ -3,19 +3,19 @@
 ghost use Rattle.std.specs.Prelude.{List, [], ◌∷◌, Option, Bool, true, is_some};
 ghost use Rattle.amqp_ser.specs.Carried as ser;
 ghost use Rattle.amqp_ser.specs.Tree.{Tree};
-ghost use Rattle.amqp_de.specs.Defaults.{RestorableDefaulted};
-ghost use Rattle.amqp_de.specs.Present.{required, optional};
-ghost use Rattle.amqp_de.specs.Reads.{Always, RestorableOption};
+ghost use Rattle.amqp_read.specs.Defaults.{RestorableDefaulted};
+ghost use Rattle.amqp_read.specs.Present.{required, optional};
+ghost use Rattle.amqp_read.specs.Reads.{Always, RestorableOption};
 ghost use Rattle.amqp_round_trip.specs.FieldTrees.{FieldsStand};
 
 use crate::round_trips::RoundTrip;
-use amqp_de::{Defaulted, FieldValues, Optional, Required};
+use amqp_read::{Defaulted, FieldValues, Optional, Required};
 
 /// Fields whose types round-trip.
 ///
-/// The members are those of `FieldSeeds` of the same fields, stated again. As a subtrait, each field
-/// would bring both traits of all fields after it into a check, whose time would grow with the cube
-/// of the number of fields.
+/// The members but `trees` are those of `FieldSeeds` of the same fields, stated again. As a
+/// subtrait, each field would bring both traits of all fields after it into a check, whose time
+/// would grow with the cube of the number of fields.
 ///
 /// # Implementer notes
 /// `law` is required and does nothing. Its contract is the law.
@@ -83,14 +83,15 @@ impl<V: RoundTrip, R: RoundTripFields> RoundTripFields for Optional<V, R> {
 }
 
 #[tactic(auto, unfolding(crate::specs::FieldTrees::FieldsStand))]
-impl<V: RoundTrip + Copy, R: RoundTripFields> RoundTripFields for Defaulted<V, R> {
+impl<V: RoundTrip, const D: u64, R: RoundTripFields> RoundTripFields for Defaulted<V, D, R> {
     type Values = FieldValues<V, R::Values>;
 
     ghost trees = { λ x. (true, V.tree x.value) ∷ R.trees x.rest };
 
     ghost images = { λ x. required (V.image x.value) ∷ R.images x.rest };
 
-    ghost restorable = { λ x. RestorableDefaulted V.image V.restorable x.value × R.restorable x.rest };
+    ghost restorable = { λ x.
+        RestorableDefaulted V.image V.restorable x.value × R.restorable x.rest };
 
     fn law() {
         V::law();

@@ -7,18 +7,12 @@ ghost use Rattle.amqp_ser.specs.Composites.{as_described};
 ghost use Rattle.amqp_ser.specs.Compounds.{tree_of_parts};
 ghost use Rattle.amqp_ser.specs.Marked.{with_marker};
 ghost use Rattle.amqp_ser.specs.Named.{string_key};
-ghost use Rattle.amqp_ser.specs.Tree.{Descriptor, code, Tree, Trees, array, list, described, trees_of};
+ghost use Rattle.amqp_ser.specs.Tree.{Descriptor, Tree, Trees, array, list, described, trees_of};
 ghost use Rattle.amqp_ser.specs.declared.kind.CompoundKind.TheVariants as kind;
 ghost use Rattle.amqp_ser.specs.declared.marker.Marker.TheVariants as marker;
 ghost use Rattle.amqp_value.specs.Image.{variant_map};
-ghost use Rattle.amqp_ser.specs.Words.{list_of, short_list_of, short_map_of};
-ghost use Rattle.amqp_de.specs.Present.{all_images, distinct_names, short_list, short_map, up_to_last};
-ghost use Rattle.amqp_round_trip.specs.FieldTrees.{FieldsStand, all_field_trees, with_names};
+ghost use Rattle.amqp_read.specs.Present.{distinct_names, short_list, short_map, up_to_last};
 ghost use Rattle.amqp_round_trip.specs.HasImage.{HasImage, HaveImages, FieldsHaveImages};
-
-use crate::alternatives::RoundTripAlternatives;
-use crate::fields::RoundTripFields;
-use amqp_de::{NamedRecord, Record};
 
 /// The image of a list is the list of its elements' images.
 pub fn lists_return()
@@ -77,44 +71,3 @@ pub fn named_maps_return()
         (ns : List (List ℕ)) (fs : List (Bool × Tree)) → HasImage p t → FieldsHaveImages ps ns fs →
         FieldsHaveImages (if b then string_key n ∷ p ∷ ps else ps) (n ∷ ns) ((b, t) ∷ fs) }
 {}
-
-/// The image of a list of fields, without the absent ones at its end, is declared for it.
-#[tactic(auto, using(crate::proofs::FieldTreeLemmas::short_fields))]
-pub fn short_fields_return<T: Record, F: RoundTripFields<Values = T::Values>>()
-    ensures { (x : T) → F.restorable (T.parts x) →
-        HasImage (short_list_of (F.trees (T.parts x))) (short_list (F.images (T.parts x))) }
-{
-    F::law();
-}
-
-/// The image of a list of all fields is declared for it.
-#[tactic(auto, using(crate::proofs::FieldTreeLemmas::all_fields))]
-pub fn all_fields_return<T: Record, F: RoundTripFields<Values = T::Values>>()
-    ensures { (x : T) → F.restorable (T.parts x) →
-        HasImage (list_of (all_field_trees (F.trees (T.parts x))))
-        (list (trees_of (all_images (F.images (T.parts x))))) }
-{
-    F::law();
-}
-
-/// The image of a map from distinct names to the present fields is declared for it.
-#[tactic(auto, using(crate::proofs::FieldTreeLemmas::named_fields))]
-pub fn named_fields_return<T: NamedRecord, F: RoundTripFields<Values = T::Values>>()
-    ensures { (x : T) → F.restorable (T.parts x) →
-        HasImage (short_map_of (with_names T.names (F.trees (T.parts x))))
-        (short_map T.names (F.images (T.parts x))) }
-{
-    T::names_are_distinct();
-    F::law();
-}
-
-/// The image of one of several composites is declared for it, with the code of that composite.
-pub fn alternatives_return<T: Record>()
-where
-    T::Values: RoundTripAlternatives,
-    ensures { (x : T) → T.Values.restorable (T.parts x) →
-        HasImage (T.Values.trees (T.parts x))
-        (described (code (T.Values.code_of (T.parts x))) (T.Values.image (T.parts x))) }
-{
-    <T::Values>::law();
-}

@@ -6,7 +6,7 @@ use amqp_data::{
     Array, ByteBuf, Dec32, Dec64, Dec128, Described, Descriptor, F32Bits, F64Bits, OrderedMap,
     Symbol, Timestamp, TransparentVec, Uuid,
 };
-use amqp_de::de::Deserialize;
+use amqp_read::Deserialize;
 use amqp_value::Value;
 use std::collections::BTreeMap;
 use std::hash::Hash;

@@ -5,6 +5,7 @@ use Rattle.std.specs.Int.{w16, w32, to_be_bytes}
 use Rattle.amqp_data.specs.declared.error.Error.TheVariants.{OutOfMemory}
 use Rattle.amqp_frame.specs.Frame.{IsFrame, HasFrame}
 use Rattle.amqp_from_slice.specs.Limited.{ReadsAllowed, limits_for}
+use Rattle.amqp_from_slice.specs.LocatedErrors.{IsLocatedWithin, error_in}
 use Rattle.amqp_from_slice.specs.declared.limited.Limits.{Limits}
 use Rattle.amqp_ser.specs.Encoding.{encoding}
 use Rattle.amqp_ser.specs.Tree.{Tree}
@@ -47,9 +48,9 @@ ReadsBody limits R body x payload =
 -- Why no performative is read from the body.
 abbrev pub RefusesBody : {T : Type 0} → Option Limits → (Tree → T → Type 0) → List ℕ → FrameError → Type 0
 RefusesBody limits R body error.NoPerformative = ¬ HasFrame body
-RefusesBody {T} limits R body (error.Value e) =
-    (e ≡ OutOfMemory)
-    ⊎ ((bytes payload : List ℕ) × (body ≡ bytes ++ payload) × IsFrame bytes × ((x : T) → ¬ ReadsAllowed R (limits_for limits bytes) bytes x))
+RefusesBody {T} limits R body (error.Performative e) =
+    (bytes payload : List ℕ) × (body ≡ bytes ++ payload) × IsFrame bytes × IsLocatedWithin (limits_for limits bytes) bytes e
+    × ((error_in e ≡ OutOfMemory) ⊎ ((x : T) → ¬ ReadsAllowed R (limits_for limits bytes) bytes x))
 RefusesBody limits R body e = ⊥
 
 -- The size of a frame without an extended header, with a performative and a payload of these lengths.

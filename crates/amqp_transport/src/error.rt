@@ -1,6 +1,6 @@
 //! The errors of frames.
 
-use serde_amqp::Error;
+use serde_amqp::{Error, SliceError};
 use std::fmt;
 use std::fmt::{Formatter, Write};
 
@@ -22,7 +22,9 @@ pub enum FrameError {
     TooLong,
     /// The body does not begin with an encoded value.
     NoPerformative,
-    /// A value cannot be read or written, an allocation failed, or a read failed.
+    /// The performative cannot be read: where its bytes have a fault, or which field.
+    Performative(SliceError),
+    /// A performative cannot be written, an allocation failed, or a read failed.
     Value(Error),
 }
 
@@ -46,6 +48,7 @@ impl fmt::Display for FrameError {
             FrameError::OffsetPastEnd => f.write_str("data offset past the end of the frame"),
             FrameError::TooLong => f.write_str("frame longer than the limit"),
             FrameError::NoPerformative => f.write_str("no performative"),
+            FrameError::Performative(error) => error.fmt(f),
             FrameError::Value(error) => error.fmt(f),
         }
     }

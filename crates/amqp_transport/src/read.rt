@@ -8,7 +8,7 @@ use crate::error::FrameError;
 use crate::header::FrameHeader;
 use serde_amqp::de::Deserialize;
 use serde_amqp::lazy::frame_len;
-use serde_amqp::{Limits, from_slice_with};
+use serde_amqp::{Limits, from_slice_limited_located};
 use std::alloc::Global;
 
 /// A frame, whose parts borrow the bytes that it was read from.
@@ -84,8 +84,8 @@ impl<'a> Frame<'a> {
     ///
     /// # Errors
     /// Returns `NoPerformative` if the body does not begin with an encoded value, as in an empty
-    /// frame, and the errors of `from_slice_limited`. A performative with more array elements
-    /// without bytes than it has bytes is `TooLong`.
+    /// frame, and the errors of `from_slice_limited_located` as `Performative`. A performative with
+    /// more array elements without bytes than it has bytes is `TooLong`.
     ///
     /// # Memory
     /// Allocates the performative from `alloc`. The payload is not copied.
@@ -118,9 +118,9 @@ impl<'a> Frame<'a> {
         let Some((bytes, payload)) = self.split_body() else {
             return Err(FrameError::NoPerformative);
         };
-        match from_slice_with::<T>(alloc, bytes, limits) {
+        match from_slice_limited_located::<T>(alloc, bytes, limits) {
             Ok(performative) => Ok((performative, payload)),
-            Err(error) => Err(FrameError::Value(error)),
+            Err(error) => Err(FrameError::Performative(error)),
         }
     }
 }

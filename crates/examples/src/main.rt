@@ -2,13 +2,15 @@
 //!
 //! `main` computes the length of a message, writes its bytes, prints it as an untyped value, splits
 //! the bytes into the message's sections and decodes each section; counts the message's nodes with
-//! the serializer `NodeCounter`; compares a property of another message; and reads gusts of wind.
+//! the serializer `NodeCounter`; compares a property of another message; writes and reads structs of
+//! one to 32 fields; and reads gusts of wind.
 //!
 //! - `message`, `room`: the sections of a message, and a value that is written only if it fits.
 //! - `ranges`: an untyped value that is encoded and decoded again.
 //! - `filter`: a filter by a property. It depends on the public contracts of `amqp_value` alone.
 //! - `counter`, `pending_marker`: the serializer, which counts the nodes of a tree.
 //! - `weather`: the program of `docs/GETTING_STARTED.md`.
+//! - `widths`: structs of one to 32 fields.
 #![tactic(auto)]
 
 mod counter;
@@ -18,6 +20,7 @@ mod pending_marker;
 mod ranges;
 mod room;
 mod weather;
+mod widths;
 
 use counter::count_nodes;
 use filter::{has_at_least, properties_of};
@@ -34,6 +37,7 @@ use std::alloc::Global;
 
 fn main(rt: HostRuntime) -> Result<(), Error> {
     send_and_receive(&rt)?;
+    widths::print_lengths(&rt, rt.alloc())?;
     weather::main(rt)
 }
 

@@ -1,6 +1,6 @@
-//! The macros of user-defined types, and of values written in place. `amqp_ser` and `amqp_de` have
-//! those of types too, for crates that do not depend on this one: a crate that calls a macro depends
-//! on the crate that defines it.
+//! The macros of user-defined types, and of values written in place. `amqp_ser` has `fields!` too, for
+//! crates that do not depend on this one: a crate that calls a macro depends on the crate that defines
+//! it.
 
 /// Builds the fields of a struct, in order: `fields! { "name": value, "other"?: option, .. }`.
 ///
@@ -28,11 +28,12 @@ macro_rules! fields {
     };
 }
 
-/// The fields of a struct, in order: `named! { "name", "other"?, "third" = 1u32, .. }`.
+/// The fields of a struct, in order: `named! { "name", "other"?, "third" = 20, .. }`.
 ///
-/// A `?` marks an optional field, which may be absent or null. A field with `= value` is read as
-/// this value if it is absent or null. Inside `ListSeed` or `NamedSeed` it reads the values of the
-/// fields, which the pattern `values!` destructures.
+/// A `?` marks an optional field, which may be absent or null. A field with `= number` is read as
+/// this number if it is absent or null; for a `bool`, 0 is `false` and 1 is `true`. Inside `ListOf`,
+/// `MapOf` or `AnyOf` it reads the values of the fields, which the pattern `values!` destructures,
+/// and from which `built!` builds a struct.
 #[macro_export]
 macro_rules! named {
     () => { () };
@@ -50,10 +51,10 @@ macro_rules! named {
             rest: $crate::named!($($($rest)*)?)
         }
     };
-    ($name:literal = $default:expr $(, $($rest:tt)*)?) => {
-        $crate::de::Defaulted {
+    ($name:literal = $default:literal $(, $($rest:tt)*)?) => {
+        $crate::de::Defaulted::<_, $default, _> {
             name: $name,
-            default: $default,
+            of: std::marker::PhantomData,
             rest: $crate::named!($($($rest)*)?)
         }
     };
@@ -72,8 +73,12 @@ macro_rules! values {
 /// `variants! { unit, newtype, named! { "side", "note"? }, .. }`.
 ///
 /// `unit` is a variant without a value, `newtype` is a variant with one value, and the value of a
-/// variant with fields is the list of them. Inside `EnumSeed` it reads one of the variants, which
-/// the pattern `variant!` matches.
+/// variant with fields is the list of them. Inside `ByIndex` it reads one of the variants, which
+/// the pattern `place!` matches.
+///
+/// `shape Fields` is a variant whose value is read by the shape `Fields`, which implements
+/// `Nameless`. The borrow checker allows the names of the fields of the last variant with a value
+/// alone; in other enums the fields of each variant are read by a type of its own.
 #[macro_export]
 macro_rules! variants {
     () => { () };
@@ -82,39 +87,70 @@ macro_rules! variants {
     };
     (newtype $(, $($rest:tt)*)?) => {
         $crate::de::DataVariant {
-            seed: $crate::de::TypeSeed(std::marker::PhantomData),
+            shape: $crate::de::Of(std::marker::PhantomData),
             missing: "Expecting a value",
+            rest: $crate::variants!($($($rest)*)?),
+        }
+    };
+    (shape $shape:expr $(, $($rest:tt)*)?) => {
+        $crate::de::DataVariant {
+            shape: $shape,
+            missing: "Expecting Value::List",
             rest: $crate::variants!($($($rest)*)?),
         }
     };
     ($fields:expr $(, $($rest:tt)*)?) => {
         $crate::de::DataVariant {
-            seed: $crate::de::ListSeed($fields),
+            shape: $crate::de::FullListOf($fields),
             missing: "Expecting Value::List",
             rest: $crate::variants!($($($rest)*)?),
         }
     };
 }
 
-/// The pattern of the variant at a position: `variant!(1, value)`.
-///
-/// `variant!(none 4, never)` completes a `match` over four variants. It binds `never` to a value of
-/// the empty type [`Never`](crate::de::Never).
+/// Builds a value from the values of its fields: `built! { values => Point { x, y } }`, or
+/// `Point(x, y)`, or a variant.
 #[macro_export]
-macro_rules! variant {
+macro_rules! built {
+    ($values:expr => $name:ident $(:: $variant:ident)? { $($field:ident),* $(,)? }) => {{
+        let rest = $values;
+        $(let $crate::de::FieldValues { value: $field, rest } = rest;)*
+        let () = rest;
+        $name $(:: $variant)? { $($field),* }
+    }};
+    ($values:expr => $name:ident $(:: $variant:ident)? ( $($field:ident),* $(,)? )) => {{
+        let rest = $values;
+        $(let $crate::de::FieldValues { value: $field, rest } = rest;)*
+        let () = rest;
+        $name $(:: $variant)? ( $($field),* )
+    }};
+}
+
+/// The pattern of the alternative at a place, counted from 0: `place!(2, value)`. `place!(rest 3,
+/// value)` is what follows the first three.
+#[macro_export]
+macro_rules! place {
     (0, $value:pat) => { $crate::de::Either::This($value) };
-    (1, $value:pat) => { $crate::de::Either::Other($crate::variant!(0, $value)) };
-    (2, $value:pat) => { $crate::de::Either::Other($crate::variant!(1, $value)) };
-    (3, $value:pat) => { $crate::de::Either::Other($crate::variant!(2, $value)) };
-    (4, $value:pat) => { $crate::de::Either::Other($crate::variant!(3, $value)) };
-    (5, $value:pat) => { $crate::de::Either::Other($crate::variant!(4, $value)) };
-    (none 0, $value:pat) => { $value };
-    (none 1, $value:pat) => { $crate::de::Either::Other($crate::variant!(none 0, $value)) };
-    (none 2, $value:pat) => { $crate::de::Either::Other($crate::variant!(none 1, $value)) };
-    (none 3, $value:pat) => { $crate::de::Either::Other($crate::variant!(none 2, $value)) };
-    (none 4, $value:pat) => { $crate::de::Either::Other($crate::variant!(none 3, $value)) };
-    (none 5, $value:pat) => { $crate::de::Either::Other($crate::variant!(none 4, $value)) };
-    (none 6, $value:pat) => { $crate::de::Either::Other($crate::variant!(none 5, $value)) };
+    (1, $value:pat) => { $crate::de::Either::Other($crate::place!(0, $value)) };
+    (2, $value:pat) => { $crate::de::Either::Other($crate::place!(1, $value)) };
+    (3, $value:pat) => { $crate::de::Either::Other($crate::place!(2, $value)) };
+    (4, $value:pat) => { $crate::de::Either::Other($crate::place!(3, $value)) };
+    (5, $value:pat) => { $crate::de::Either::Other($crate::place!(4, $value)) };
+    (6, $value:pat) => { $crate::de::Either::Other($crate::place!(5, $value)) };
+    (7, $value:pat) => { $crate::de::Either::Other($crate::place!(6, $value)) };
+    (8, $value:pat) => { $crate::de::Either::Other($crate::place!(7, $value)) };
+    (9, $value:pat) => { $crate::de::Either::Other($crate::place!(8, $value)) };
+    (rest 0, $value:pat) => { $value };
+    (rest 1, $value:pat) => { $crate::de::Either::Other($crate::place!(rest 0, $value)) };
+    (rest 2, $value:pat) => { $crate::de::Either::Other($crate::place!(rest 1, $value)) };
+    (rest 3, $value:pat) => { $crate::de::Either::Other($crate::place!(rest 2, $value)) };
+    (rest 4, $value:pat) => { $crate::de::Either::Other($crate::place!(rest 3, $value)) };
+    (rest 5, $value:pat) => { $crate::de::Either::Other($crate::place!(rest 4, $value)) };
+    (rest 6, $value:pat) => { $crate::de::Either::Other($crate::place!(rest 5, $value)) };
+    (rest 7, $value:pat) => { $crate::de::Either::Other($crate::place!(rest 6, $value)) };
+    (rest 8, $value:pat) => { $crate::de::Either::Other($crate::place!(rest 7, $value)) };
+    (rest 9, $value:pat) => { $crate::de::Either::Other($crate::place!(rest 8, $value)) };
+    (rest 10, $value:pat) => { $crate::de::Either::Other($crate::place!(rest 9, $value)) };
 }
 
 /// Builds a list: `list![in alloc; item, ..]`, of type `Result<Value, Error>`.

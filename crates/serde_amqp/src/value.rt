@@ -5,7 +5,8 @@ pub mod ser;
 
 pub use crate::{list, map};
 pub use amqp_round_trip::{
-    MapKey, RoundTrip, RoundTripAlternatives, RoundTripComposite, RoundTripFields, laws, round_trip,
+    MapKey, RoundTrip, RoundTripAlternatives, RoundTripComposite, RoundTripReadable, ShapeTree,
+    composite_returns, laws, parts_return, round_trip,
 };
 pub use amqp_to_value::{TryFromSerializable, to_value};
 pub use amqp_value::{

@@ -1,6 +1,6 @@
 //! The errors of messages.
 
-use serde_amqp::Error;
+use serde_amqp::{Error, SliceError};
 use std::fmt;
 use std::fmt::{Formatter, Write};
 
@@ -22,7 +22,9 @@ pub enum MessageError {
     MixedBody,
     /// The message has no body.
     NoBody,
-    /// A section cannot be read or written, or an allocation failed.
+    /// A section cannot be read: where its bytes have a fault, or which field.
+    Section(SliceError),
+    /// A section cannot be written, or an allocation failed.
     Value(Error),
 }
 
@@ -46,6 +48,7 @@ impl fmt::Display for MessageError {
             MessageError::Repeated => f.write_str("section repeated"),
             MessageError::MixedBody => f.write_str("body of several kinds"),
             MessageError::NoBody => f.write_str("no body"),
+            MessageError::Section(error) => error.fmt(f),
             MessageError::Value(error) => error.fmt(f),
         }
     }

@@ -51,9 +51,9 @@ impl<'a> LazyMessage<'a> {
     ///
     /// # Errors
     /// Returns `Malformed`, `UnknownSection`, `OutOfOrder`, `Repeated`, `MixedBody` or `NoBody` if the
-    /// bytes are not the sections of a message, and the error of `from_slice_limited` for the first
-    /// section that cannot be read. A section with more array elements without bytes than it has
-    /// bytes is `TooLong`.
+    /// bytes are not the sections of a message, and the error of `from_slice_limited_located` for the
+    /// first section that cannot be read, as `Section`. A section with more array elements without
+    /// bytes than it has bytes is `TooLong`.
     ///
     /// # Memory
     /// Allocates the header, the annotations and the properties from `alloc`. The body is not copied.

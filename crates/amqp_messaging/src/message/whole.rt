@@ -55,9 +55,9 @@ impl Message {
     ///
     /// # Errors
     /// Returns `Malformed`, `UnknownSection`, `OutOfOrder`, `Repeated`, `MixedBody` or `NoBody` if the
-    /// bytes are not the sections of a message, and the error of `from_slice_limited` for the first
-    /// section that cannot be read. A section with more array elements without bytes than it has
-    /// bytes is `TooLong`.
+    /// bytes are not the sections of a message, and the error of `from_slice_limited_located` for the
+    /// first section that cannot be read, as `Section`. A section with more array elements without
+    /// bytes than it has bytes is `TooLong`.
     ///
     /// # Memory
     /// Allocates the message from `alloc`, as `from_slice_limited` does for each section.

@@ -1,5 +1,5 @@
 use Rattle.std.proofs.Common.{subst}
-use Rattle.amqp_de.specs.Answers.{Refuses}
+use Rattle.amqp_read.specs.Answers.{Refuses}
 use Rattle.amqp_from_slice.specs.Limited.{ReadsAllowed}
 use Rattle.amqp_from_slice.proofs.SpelledLemmas.{IsMemory}
 use Rattle.amqp_from_slice.proofs.limited.from_slice_with.Goals as goal

@@ -12,4 +12,4 @@ loop-rest-preserved g c =
     let p : c.push.new.self.items ≡ c.loop-rest.sections.items ++ c.in_ok-read.read ∷ [] = search rules in
     rw p (add_read c.args.limits g.T.Deserialize.reads c.args.bytes.now c.loop-rest.invariant.0 c.loop-rest.rest.now
     c.take_part.result.0.now c.take_part.result.1.now c.loop-rest.sections.items c.in_ok-read.read
-    c.loop-rest.invariant.1 c.loop-rest.invariant.2 c.take_part.ensures.1 c.in_ok-read.ensures)
+    c.loop-rest.invariant.1 c.loop-rest.invariant.2 c.take_part.ensures.1 c.in_ok-read.ensures.read)

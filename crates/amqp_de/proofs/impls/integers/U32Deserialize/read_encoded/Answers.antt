@@ -1,6 +1,0 @@
-use Rattle.amqp_ser.specs.Tree as tree
-use Rattle.amqp_de.proofs.Leaves.{leaf_prefix}
-use Rattle.amqp_de.proofs.impls.integers.U32Deserialize.read_encoded.Goals as goal
-
-pub returns : goal.returns
-returns c = leaf_prefix tree.uint (λ a b e. cc) (λ x. x) c.args._depth _ _ _ c.in_ok-value.ensures

@@ -1,8 +1,0 @@
-use Rattle.std.proofs.Common.{arith}
-use Rattle.amqp_de.proofs.impls.numbers.read_numbers.Goals as goal
-
-pub as_chunks-requires : goal.as_chunks-requires
-as_chunks-requires g c = (omega (arith, c.requires.size), c.requires.nonzero)
-
-pub convert-requires : goal.convert-requires
-convert-requires g c = omega (arith, c.requires.size)

@@ -1,7 +1,0 @@
-use Rattle.std.specs.Prelude.{string_bytes}
-use Rattle.amqp_ser.specs.Tree as tree
-use Rattle.amqp_de.proofs.Leaves.{leaf_prefix}
-use Rattle.amqp_de.proofs.impls.texts.StringDeserialize.read_encoded.Goals as goal
-
-pub returns : goal.returns
-returns c = leaf_prefix tree.string (λ a b e. cc) string_bytes c.args._depth _ _ c.in_ok-value.value c.in_ok-value.ensures

@@ -1,0 +1,69 @@
+//! tools/derive wrote this file from error.rt: it is not edited by hand.
+
+use super::{AmqpError, OrderedMap, Symbol, Value};
+use serde_amqp::derive::{
+    Composite, Fault, Global, ListOf, Optional, Record, Required, RoundTripComposite, Serialize,
+    SerializeCompounds, Serializer, Shape, ShapeTree, Source, built, composite_returns, fields,
+    named, read_shaped,
+};
+
+/// What an [`AmqpError`] is read from.
+type AmqpErrorFields = Required<Symbol, Optional<String, Optional<OrderedMap<Symbol, Value>, ()>>>;
+
+type AmqpErrorShape = ListOf<AmqpErrorFields>;
+
+impl Record for AmqpError {
+    ghost use Rattle.serde_amqp.specs.Derive.{◌▸◌};
+
+    type Values = <AmqpErrorShape as Shape>::Value;
+
+    ghost parts = { λ x. x.condition ▸ x.description ▸ x.info ▸ tt };
+
+    fn from_parts(values: <AmqpErrorShape as Shape>::Value) -> AmqpError {
+        built! { values => AmqpError { condition, description, info } }
+    }
+}
+
+impl Composite for AmqpError {
+    ghost use Rattle.std.specs.Prelude.{codes};
+    ghost use Rattle.serde_amqp.specs.Derive.{by_parts};
+
+    ghost descriptor_code = { 0x1d };
+
+    ghost descriptor_name = { codes "amqp:error:list" };
+
+    ghost body = { by_parts ⟦<AmqpErrorShape as Shape>⟧.laws ⟦<AmqpError as Record>⟧.parts };
+
+    fn descriptor() -> (u64, &'static str) {
+        (0x1d, "amqp:error:list")
+    }
+
+    #[inline(always)]
+    fn read_body<S: Source>(alloc: Global, source: S) -> Result<(AmqpError, S::Rest), Fault> {
+        let fields = named! { "condition", "description"?, "info"? };
+        read_shaped(alloc, source, ListOf(fields))
+    }
+}
+
+impl Serialize for AmqpError {
+    ghost use Rattle.serde_amqp.specs.Derive.{after_code};
+
+    ghost tree = { after_code 0x1d ⟦<AmqpErrorShape as ShapeTree>⟧.tree
+        ⟦<AmqpError as Record>⟧.parts };
+
+    fn serialize<S: Serializer>(&self, serializer: &mut S) -> Result<S::Ok, S::Error> {
+        serializer.serialize_described(
+            &0x1du64,
+            &ListOf(fields! {
+                "condition": &self.condition, "description"?: &self.description,
+                "info"?: &self.info
+            }),
+        )
+    }
+}
+
+impl RoundTripComposite for AmqpError {
+    fn composite_law() {
+        composite_returns::<AmqpError, AmqpErrorShape>();
+    }
+}

@@ -1,0 +1,116 @@
+//! tools/derive wrote this file from header.rt: it is not edited by hand.
+
+use super::Header;
+use serde_amqp::derive::{
+    Composite, Fault, Global, ListOf, Optional, Record, RoundTripComposite, Serialize,
+    SerializeCompounds, Serializer, Shape, ShapeTree, Source, built, composite_returns, fields,
+    named, read_shaped,
+};
+
+/// What a [`Header`] is read from.
+type HeaderFields = Optional<bool, Optional<u8, Optional<u32, Optional<bool, Optional<u32, ()>>>>>;
+
+type HeaderShape = ListOf<HeaderFields>;
+
+impl Record for Header {
+    ghost use Rattle.serde_amqp.specs.Derive.{◌▸◌};
+
+    type Values = <HeaderShape as Shape>::Value;
+
+    ghost parts = { λ x. x.durable ▸ x.priority ▸ x.ttl ▸ x.first_acquirer ▸ x.delivery_count ▸
+        tt };
+
+    fn from_parts(values: <HeaderShape as Shape>::Value) -> Header {
+        built! { values => Header { durable, priority, ttl, first_acquirer, delivery_count } }
+    }
+}
+
+impl Composite for Header {
+    ghost use Rattle.std.specs.Prelude.{codes};
+    ghost use Rattle.serde_amqp.specs.Derive.{by_parts};
+
+    ghost descriptor_code = { 0x70 };
+
+    ghost descriptor_name = { codes "amqp:header:list" };
+
+    ghost body = { by_parts ⟦<HeaderShape as Shape>⟧.laws ⟦<Header as Record>⟧.parts };
+
+    fn descriptor() -> (u64, &'static str) {
+        (0x70, "amqp:header:list")
+    }
+
+    #[inline(always)]
+    fn read_body<S: Source>(alloc: Global, source: S) -> Result<(Header, S::Rest), Fault> {
+        let fields = named! {
+            "durable"?, "priority"?, "ttl"?, "first-acquirer"?, "delivery-count"?
+        };
+        read_shaped(alloc, source, ListOf(fields))
+    }
+}
+
+impl Serialize for Header {
+    ghost use Rattle.serde_amqp.specs.Derive.{after_code};
+
+    ghost tree = { after_code 0x70 ⟦<HeaderShape as ShapeTree>⟧.tree ⟦<Header as Record>⟧.parts };
+
+    fn serialize<S: Serializer>(&self, serializer: &mut S) -> Result<S::Ok, S::Error> {
+        serializer.serialize_described(
+            &0x70u64,
+            &ListOf(fields! {
+                "durable"?: &self.durable, "priority"?: &self.priority, "ttl"?: &self.ttl,
+                "first-acquirer"?: &self.first_acquirer, "delivery-count"?: &self.delivery_count
+            }),
+        )
+    }
+}
+
+impl RoundTripComposite for Header {
+    fn composite_law() {
+        composite_returns::<Header, HeaderShape>();
+    }
+}
+
+impl Header {
+    ghost use Rattle.std.specs.Prelude.{◌≡◌, false};
+    ghost use Rattle.serde_amqp.specs.Derive.{value_or};
+
+    /// Returns `durable`, or `false` if it is absent.
+    pub fn durable_or_default(&self) -> bool
+        ensures { result ≡ value_or false self.now.durable }
+    {
+        match self.durable {
+            Some(value) => value,
+            None => false,
+        }
+    }
+
+    /// Returns `priority`, or `4` if it is absent.
+    pub fn priority_or_default(&self) -> u8
+        ensures { result ≡ value_or 4 self.now.priority }
+    {
+        match self.priority {
+            Some(value) => value,
+            None => 4,
+        }
+    }
+
+    /// Returns `first_acquirer`, or `false` if it is absent.
+    pub fn first_acquirer_or_default(&self) -> bool
+        ensures { result ≡ value_or false self.now.first_acquirer }
+    {
+        match self.first_acquirer {
+            Some(value) => value,
+            None => false,
+        }
+    }
+
+    /// Returns `delivery_count`, or `0` if it is absent.
+    pub fn delivery_count_or_default(&self) -> u32
+        ensures { result ≡ value_or 0 self.now.delivery_count }
+    {
+        match self.delivery_count {
+            Some(value) => value,
+            None => 0,
+        }
+    }
+}

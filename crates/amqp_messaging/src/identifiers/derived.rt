@@ -1,0 +1,112 @@
+//! tools/derive wrote this file from identifiers.rt: it is not edited by hand.
+
+use super::{Address, AnnotationKey, MessageId};
+use serde_amqp::derive::{
+    Fault, Global, MapKey, Readable, RoundTripReadable, Serialize, Serializer, Source, Value,
+};
+
+impl Readable for MessageId {
+    ghost use Rattle.std.specs.Prelude.{string_bytes};
+    ghost use Rattle.serde_amqp.specs.Derive.{byte_buf_bytes, uuid_bytes, Scalar, ulong, uuid};
+    ghost use Rattle.serde_amqp.specs.Derive.{binary, string, by_scalar};
+    ghost use Rattle.amqp_messaging.specs.declared.identifiers.MessageId.TheVariants as variant;
+
+    ghost laws = { by_scalar (λ x. elim x as (λ _. Scalar) [
+      | variant.Ulong v ↦ ulong v
+      | variant.Uuid v ↦ uuid (uuid_bytes v)
+      | variant.Binary v ↦ binary (byte_buf_bytes v)
+      | variant.String v ↦ string (string_bytes v)
+    ]) };
+
+    fn read_value<S: Source>(alloc: Global, source: S) -> Result<(MessageId, S::Rest), Fault> {
+        let (value, rest) = match source.untyped(alloc) {
+            Ok(read) => read,
+            Err(fault) => return Err(fault),
+        };
+        match value {
+            Value::Ulong(value) => Ok((MessageId::Ulong(value), rest)),
+            Value::Uuid(value) => Ok((MessageId::Uuid(value), rest)),
+            Value::Binary(value) => Ok((MessageId::Binary(value), rest)),
+            Value::String(value) => Ok((MessageId::String(value), rest)),
+            _ => Err(Fault::invalid()),
+        }
+    }
+}
+
+impl Serialize for MessageId {
+    ghost use Rattle.std.specs.Prelude.{Some};
+
+    ghost tree = { λ x. Some (⟦<MessageId as Readable>⟧.laws.image x) };
+
+    fn serialize<S: Serializer>(&self, serializer: &mut S) -> Result<S::Ok, S::Error> {
+        match self {
+            MessageId::Ulong(value) => value.serialize(serializer),
+            MessageId::Uuid(value) => value.serialize(serializer),
+            MessageId::Binary(value) => value.serialize(serializer),
+            MessageId::String(value) => value.serialize(serializer),
+        }
+    }
+}
+
+impl RoundTripReadable for MessageId {
+    fn readable_law() {}
+}
+
+impl Readable for Address {
+    ghost use Rattle.std.specs.Prelude.{string_bytes};
+    ghost use Rattle.serde_amqp.specs.Derive.{Scalar, string, by_scalar};
+    ghost use Rattle.amqp_messaging.specs.declared.identifiers.Address.TheVariants as variant;
+
+    ghost laws = { by_scalar (λ x. elim x as (λ _. Scalar) [
+      | variant.String v ↦ string (string_bytes v)
+    ]) };
+
+    fn read_value<S: Source>(alloc: Global, source: S) -> Result<(Address, S::Rest), Fault> {
+        let (value, rest) = match source.untyped(alloc) {
+            Ok(read) => read,
+            Err(fault) => return Err(fault),
+        };
+        match value {
+            Value::String(value) => Ok((Address::String(value), rest)),
+            _ => Err(Fault::invalid()),
+        }
+    }
+}
+
+impl Serialize for Address {
+    ghost use Rattle.std.specs.Prelude.{Some};
+
+    ghost tree = { λ x. Some (⟦<Address as Readable>⟧.laws.image x) };
+
+    fn serialize<S: Serializer>(&self, serializer: &mut S) -> Result<S::Ok, S::Error> {
+        match self {
+            Address::String(value) => value.serialize(serializer),
+        }
+    }
+}
+
+impl RoundTripReadable for Address {
+    fn readable_law() {}
+}
+
+impl Serialize for AnnotationKey {
+    ghost use Rattle.std.specs.Prelude.{Some};
+    ghost use Rattle.serde_amqp.specs.Derive.{symbol_text, Scalar, scalar, ulong, symbol};
+    ghost use Rattle.amqp_messaging.specs.declared.identifiers.AnnotationKey.TheVariants as variant;
+
+    ghost tree = { λ x. Some (scalar (elim x as (λ _. Scalar) [
+      | variant.Symbol v ↦ symbol (symbol_text v)
+      | variant.Ulong v ↦ ulong v
+    ])) };
+
+    fn serialize<S: Serializer>(&self, serializer: &mut S) -> Result<S::Ok, S::Error> {
+        match self {
+            AnnotationKey::Symbol(value) => value.serialize(serializer),
+            AnnotationKey::Ulong(value) => value.serialize(serializer),
+        }
+    }
+}
+
+impl MapKey for AnnotationKey {
+    fn image_is_injective() {}
+}

@@ -1,0 +1,175 @@
+//! tools/derive wrote this file from transactions.rt: it is not edited by hand.
+
+use super::{ByteBuf, Declare, Declared, Discharge, Value};
+use serde_amqp::derive::{
+    Composite, Fault, Global, ListOf, Optional, Record, Required, RoundTripComposite, Serialize,
+    SerializeCompounds, Serializer, Shape, ShapeTree, Source, built, composite_returns, fields,
+    named, read_shaped,
+};
+
+/// What a [`Declare`] is read from.
+type DeclareFields = Optional<Value, ()>;
+
+type DeclareShape = ListOf<DeclareFields>;
+
+impl Record for Declare {
+    ghost use Rattle.serde_amqp.specs.Derive.{◌▸◌};
+
+    type Values = <DeclareShape as Shape>::Value;
+
+    ghost parts = { λ x. x.global_id ▸ tt };
+
+    fn from_parts(values: <DeclareShape as Shape>::Value) -> Declare {
+        built! { values => Declare { global_id } }
+    }
+}
+
+impl Composite for Declare {
+    ghost use Rattle.std.specs.Prelude.{codes};
+    ghost use Rattle.serde_amqp.specs.Derive.{by_parts};
+
+    ghost descriptor_code = { 0x31 };
+
+    ghost descriptor_name = { codes "amqp:declare:list" };
+
+    ghost body = { by_parts ⟦<DeclareShape as Shape>⟧.laws ⟦<Declare as Record>⟧.parts };
+
+    fn descriptor() -> (u64, &'static str) {
+        (0x31, "amqp:declare:list")
+    }
+
+    #[inline(always)]
+    fn read_body<S: Source>(alloc: Global, source: S) -> Result<(Declare, S::Rest), Fault> {
+        let fields = named! { "global-id"? };
+        read_shaped(alloc, source, ListOf(fields))
+    }
+}
+
+impl Serialize for Declare {
+    ghost use Rattle.serde_amqp.specs.Derive.{after_code};
+
+    ghost tree = { after_code 0x31 ⟦<DeclareShape as ShapeTree>⟧.tree ⟦<Declare as Record>⟧.parts };
+
+    fn serialize<S: Serializer>(&self, serializer: &mut S) -> Result<S::Ok, S::Error> {
+        serializer.serialize_described(&0x31u64, &ListOf(fields! { "global-id"?: &self.global_id }))
+    }
+}
+
+impl RoundTripComposite for Declare {
+    fn composite_law() {
+        composite_returns::<Declare, DeclareShape>();
+    }
+}
+
+/// What a [`Discharge`] is read from.
+type DischargeFields = Required<ByteBuf, Optional<bool, ()>>;
+
+type DischargeShape = ListOf<DischargeFields>;
+
+impl Record for Discharge {
+    ghost use Rattle.serde_amqp.specs.Derive.{◌▸◌};
+
+    type Values = <DischargeShape as Shape>::Value;
+
+    ghost parts = { λ x. x.txn_id ▸ x.fail ▸ tt };
+
+    fn from_parts(values: <DischargeShape as Shape>::Value) -> Discharge {
+        built! { values => Discharge { txn_id, fail } }
+    }
+}
+
+impl Composite for Discharge {
+    ghost use Rattle.std.specs.Prelude.{codes};
+    ghost use Rattle.serde_amqp.specs.Derive.{by_parts};
+
+    ghost descriptor_code = { 0x32 };
+
+    ghost descriptor_name = { codes "amqp:discharge:list" };
+
+    ghost body = { by_parts ⟦<DischargeShape as Shape>⟧.laws ⟦<Discharge as Record>⟧.parts };
+
+    fn descriptor() -> (u64, &'static str) {
+        (0x32, "amqp:discharge:list")
+    }
+
+    #[inline(always)]
+    fn read_body<S: Source>(alloc: Global, source: S) -> Result<(Discharge, S::Rest), Fault> {
+        let fields = named! { "txn-id", "fail"? };
+        read_shaped(alloc, source, ListOf(fields))
+    }
+}
+
+impl Serialize for Discharge {
+    ghost use Rattle.serde_amqp.specs.Derive.{after_code};
+
+    ghost tree = { after_code 0x32 ⟦<DischargeShape as ShapeTree>⟧.tree
+        ⟦<Discharge as Record>⟧.parts };
+
+    fn serialize<S: Serializer>(&self, serializer: &mut S) -> Result<S::Ok, S::Error> {
+        serializer.serialize_described(
+            &0x32u64,
+            &ListOf(fields! { "txn-id": &self.txn_id, "fail"?: &self.fail }),
+        )
+    }
+}
+
+impl RoundTripComposite for Discharge {
+    fn composite_law() {
+        composite_returns::<Discharge, DischargeShape>();
+    }
+}
+
+/// What a [`Declared`] is read from.
+type DeclaredFields = Required<ByteBuf, ()>;
+
+type DeclaredShape = ListOf<DeclaredFields>;
+
+impl Record for Declared {
+    ghost use Rattle.serde_amqp.specs.Derive.{◌▸◌};
+
+    type Values = <DeclaredShape as Shape>::Value;
+
+    ghost parts = { λ x. x.txn_id ▸ tt };
+
+    fn from_parts(values: <DeclaredShape as Shape>::Value) -> Declared {
+        built! { values => Declared { txn_id } }
+    }
+}
+
+impl Composite for Declared {
+    ghost use Rattle.std.specs.Prelude.{codes};
+    ghost use Rattle.serde_amqp.specs.Derive.{by_parts};
+
+    ghost descriptor_code = { 0x33 };
+
+    ghost descriptor_name = { codes "amqp:declared:list" };
+
+    ghost body = { by_parts ⟦<DeclaredShape as Shape>⟧.laws ⟦<Declared as Record>⟧.parts };
+
+    fn descriptor() -> (u64, &'static str) {
+        (0x33, "amqp:declared:list")
+    }
+
+    #[inline(always)]
+    fn read_body<S: Source>(alloc: Global, source: S) -> Result<(Declared, S::Rest), Fault> {
+        let fields = named! { "txn-id" };
+        read_shaped(alloc, source, ListOf(fields))
+    }
+}
+
+impl Serialize for Declared {
+    ghost use Rattle.serde_amqp.specs.Derive.{after_code};
+
+    ghost tree = { after_code 0x33 ⟦<DeclaredShape as ShapeTree>⟧.tree
+        ⟦<Declared as Record>⟧.parts };
+
+    fn serialize<S: Serializer>(&self, serializer: &mut S) -> Result<S::Ok, S::Error> {
+        serializer.serialize_described(&0x33u64, &ListOf(fields! { "txn-id": &self.txn_id }))
+    }
+}
+
+impl RoundTripComposite for Declared {
+    fn composite_law() {
+        composite_returns::<Declared, DeclaredShape>();
+    }
+}

@@ -1,0 +1,113 @@
+//! tools/derive wrote this file from connection.rt: it is not edited by hand.
+
+use super::{Multiple, Open, OrderedMap, Symbol, Value};
+use serde_amqp::derive::{
+    Composite, Fault, Global, ListOf, Optional, Record, Required, RoundTripComposite, Serialize,
+    SerializeCompounds, Serializer, Shape, ShapeTree, Source, built, composite_returns, fields,
+    named, read_shaped,
+};
+
+/// What an [`Open`] is read from.
+type OpenFields = Required<String, Optional<String, Optional<u32, Optional<u16, OpenFields2>>>>;
+
+type OpenFields2 = Optional<u32, Optional<Multiple<Symbol>, OpenFields3>>;
+
+type OpenFields3 = Optional<Multiple<Symbol>, Optional<Multiple<Symbol>, OpenFields4>>;
+
+type OpenFields4 = Optional<Multiple<Symbol>, Optional<OrderedMap<Symbol, Value>, ()>>;
+
+type OpenShape = ListOf<OpenFields>;
+
+impl Record for Open {
+    ghost use Rattle.serde_amqp.specs.Derive.{◌▸◌};
+
+    type Values = <OpenShape as Shape>::Value;
+
+    ghost parts = { λ x. x.container_id ▸ x.hostname ▸ x.max_frame_size ▸ x.channel_max ▸
+        x.idle_time_out ▸ x.outgoing_locales ▸ x.incoming_locales ▸ x.offered_capabilities ▸
+        x.desired_capabilities ▸ x.properties ▸ tt };
+
+    fn from_parts(values: <OpenShape as Shape>::Value) -> Open {
+        built! { values => Open {
+            container_id, hostname, max_frame_size, channel_max, idle_time_out, outgoing_locales,
+            incoming_locales, offered_capabilities, desired_capabilities, properties
+        } }
+    }
+}
+
+impl Composite for Open {
+    ghost use Rattle.std.specs.Prelude.{codes};
+    ghost use Rattle.serde_amqp.specs.Derive.{by_parts};
+
+    ghost descriptor_code = { 0x10 };
+
+    ghost descriptor_name = { codes "amqp:open:list" };
+
+    ghost body = { by_parts ⟦<OpenShape as Shape>⟧.laws ⟦<Open as Record>⟧.parts };
+
+    fn descriptor() -> (u64, &'static str) {
+        (0x10, "amqp:open:list")
+    }
+
+    #[inline(always)]
+    fn read_body<S: Source>(alloc: Global, source: S) -> Result<(Open, S::Rest), Fault> {
+        let fields = named! {
+            "container-id", "hostname"?, "max-frame-size"?, "channel-max"?, "idle-time-out"?,
+            "outgoing-locales"?, "incoming-locales"?, "offered-capabilities"?,
+            "desired-capabilities"?, "properties"?
+        };
+        read_shaped(alloc, source, ListOf(fields))
+    }
+}
+
+impl Serialize for Open {
+    ghost use Rattle.serde_amqp.specs.Derive.{after_code};
+
+    ghost tree = { after_code 0x10 ⟦<OpenShape as ShapeTree>⟧.tree ⟦<Open as Record>⟧.parts };
+
+    fn serialize<S: Serializer>(&self, serializer: &mut S) -> Result<S::Ok, S::Error> {
+        serializer.serialize_described(
+            &0x10u64,
+            &ListOf(fields! {
+                "container-id": &self.container_id, "hostname"?: &self.hostname,
+                "max-frame-size"?: &self.max_frame_size, "channel-max"?: &self.channel_max,
+                "idle-time-out"?: &self.idle_time_out, "outgoing-locales"?: &self.outgoing_locales,
+                "incoming-locales"?: &self.incoming_locales,
+                "offered-capabilities"?: &self.offered_capabilities,
+                "desired-capabilities"?: &self.desired_capabilities,
+                "properties"?: &self.properties
+            }),
+        )
+    }
+}
+
+impl RoundTripComposite for Open {
+    fn composite_law() {
+        composite_returns::<Open, OpenShape>();
+    }
+}
+
+impl Open {
+    ghost use Rattle.std.specs.Prelude.{◌≡◌};
+    ghost use Rattle.serde_amqp.specs.Derive.{value_or};
+
+    /// Returns `max_frame_size`, or `4294967295` if it is absent.
+    pub fn max_frame_size_or_default(&self) -> u32
+        ensures { result ≡ value_or 4294967295 self.now.max_frame_size }
+    {
+        match self.max_frame_size {
+            Some(value) => value,
+            None => 4294967295,
+        }
+    }
+
+    /// Returns `channel_max`, or `65535` if it is absent.
+    pub fn channel_max_or_default(&self) -> u16
+        ensures { result ≡ value_or 65535 self.now.channel_max }
+    {
+        match self.channel_max {
+            Some(value) => value,
+            None => 65535,
+        }
+    }
+}

@@ -1,0 +1,119 @@
+//! tools/derive wrote this file from link.rt: it is not edited by hand.
+
+use super::{
+    AnyTarget, Attach, ByteBuf, DeliveryState, Multiple, OrderedMap, ReceiverSettleMode, Role,
+    SenderSettleMode, Source, Symbol, Value,
+};
+use serde_amqp::derive::{
+    Composite, Fault, Global, ListOf, Optional, Record, Required, RoundTripComposite, Serialize,
+    SerializeCompounds, Serializer, Shape, ShapeTree, built, composite_returns, fields, named,
+    read_shaped,
+};
+
+/// What an [`Attach`] is read from.
+type AttachFields = Required<String, Required<u32, Required<Role, AttachFields2>>>;
+
+type AttachFields2 = Optional<SenderSettleMode, Optional<ReceiverSettleMode, AttachFields3>>;
+
+type AttachFields3 = Optional<Source, Optional<AnyTarget, AttachFields4>>;
+
+type AttachFields4 = Optional<OrderedMap<ByteBuf, Option<DeliveryState>>, AttachFields5>;
+
+type AttachFields5 = Optional<bool, Optional<u32, Optional<u64, AttachFields6>>>;
+
+type AttachFields6 = Optional<Multiple<Symbol>, Optional<Multiple<Symbol>, AttachFields7>>;
+
+type AttachFields7 = Optional<OrderedMap<Symbol, Value>, ()>;
+
+type AttachShape = ListOf<AttachFields>;
+
+impl Record for Attach {
+    ghost use Rattle.serde_amqp.specs.Derive.{◌▸◌};
+
+    type Values = <AttachShape as Shape>::Value;
+
+    ghost parts = { λ x. x.name ▸ x.handle ▸ x.role ▸ x.snd_settle_mode ▸ x.rcv_settle_mode ▸
+        x.source ▸ x.target ▸ x.unsettled ▸ x.incomplete_unsettled ▸ x.initial_delivery_count ▸
+        x.max_message_size ▸ x.offered_capabilities ▸ x.desired_capabilities ▸ x.properties ▸ tt };
+
+    fn from_parts(values: <AttachShape as Shape>::Value) -> Attach {
+        built! { values => Attach {
+            name, handle, role, snd_settle_mode, rcv_settle_mode, source, target, unsettled,
+            incomplete_unsettled, initial_delivery_count, max_message_size, offered_capabilities,
+            desired_capabilities, properties
+        } }
+    }
+}
+
+impl Composite for Attach {
+    ghost use Rattle.std.specs.Prelude.{codes};
+    ghost use Rattle.serde_amqp.specs.Derive.{by_parts};
+
+    ghost descriptor_code = { 0x12 };
+
+    ghost descriptor_name = { codes "amqp:attach:list" };
+
+    ghost body = { by_parts ⟦<AttachShape as Shape>⟧.laws ⟦<Attach as Record>⟧.parts };
+
+    fn descriptor() -> (u64, &'static str) {
+        (0x12, "amqp:attach:list")
+    }
+
+    #[inline(always)]
+    fn read_body<S: serde_amqp::derive::Source>(
+        alloc: Global,
+        source: S,
+    ) -> Result<(Attach, S::Rest), Fault> {
+        let fields = named! {
+            "name", "handle", "role", "snd-settle-mode"?, "rcv-settle-mode"?, "source"?, "target"?,
+            "unsettled"?, "incomplete-unsettled"?, "initial-delivery-count"?, "max-message-size"?,
+            "offered-capabilities"?, "desired-capabilities"?, "properties"?
+        };
+        read_shaped(alloc, source, ListOf(fields))
+    }
+}
+
+impl Serialize for Attach {
+    ghost use Rattle.serde_amqp.specs.Derive.{after_code};
+
+    ghost tree = { after_code 0x12 ⟦<AttachShape as ShapeTree>⟧.tree ⟦<Attach as Record>⟧.parts };
+
+    fn serialize<S: Serializer>(&self, serializer: &mut S) -> Result<S::Ok, S::Error> {
+        serializer.serialize_described(
+            &0x12u64,
+            &ListOf(fields! {
+                "name": &self.name, "handle": &self.handle, "role": &self.role,
+                "snd-settle-mode"?: &self.snd_settle_mode,
+                "rcv-settle-mode"?: &self.rcv_settle_mode, "source"?: &self.source,
+                "target"?: &self.target, "unsettled"?: &self.unsettled,
+                "incomplete-unsettled"?: &self.incomplete_unsettled,
+                "initial-delivery-count"?: &self.initial_delivery_count,
+                "max-message-size"?: &self.max_message_size,
+                "offered-capabilities"?: &self.offered_capabilities,
+                "desired-capabilities"?: &self.desired_capabilities,
+                "properties"?: &self.properties
+            }),
+        )
+    }
+}
+
+impl RoundTripComposite for Attach {
+    fn composite_law() {
+        composite_returns::<Attach, AttachShape>();
+    }
+}
+
+impl Attach {
+    ghost use Rattle.std.specs.Prelude.{◌≡◌, false};
+    ghost use Rattle.serde_amqp.specs.Derive.{value_or};
+
+    /// Returns `incomplete_unsettled`, or `false` if it is absent.
+    pub fn incomplete_unsettled_or_default(&self) -> bool
+        ensures { result ≡ value_or false self.now.incomplete_unsettled }
+    {
+        match self.incomplete_unsettled {
+            Some(value) => value,
+            None => false,
+        }
+    }
+}

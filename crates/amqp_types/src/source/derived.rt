@@ -1,0 +1,123 @@
+//! tools/derive wrote this file from source.rt: it is not edited by hand.
+
+use super::{
+    Address, DistributionMode, Multiple, OrderedMap, Outcome, Source, Symbol, TerminusDurability,
+    TerminusExpiryPolicy, Value,
+};
+use serde_amqp::derive::{
+    Composite, Fault, Global, ListOf, Optional, Record, RoundTripComposite, Serialize,
+    SerializeCompounds, Serializer, Shape, ShapeTree, built, composite_returns, fields, named,
+    read_shaped,
+};
+
+/// What a [`Source`] is read from.
+type SourceFields = Optional<Address, Optional<TerminusDurability, SourceFields2>>;
+
+type SourceFields2 = Optional<TerminusExpiryPolicy, Optional<u32, Optional<bool, SourceFields3>>>;
+
+type SourceFields3 = Optional<OrderedMap<Symbol, Value>, SourceFields4>;
+
+type SourceFields4 = Optional<DistributionMode, SourceFields5>;
+
+type SourceFields5 = Optional<OrderedMap<Symbol, Value>, Optional<Outcome, SourceFields6>>;
+
+type SourceFields6 = Optional<Multiple<Symbol>, Optional<Multiple<Symbol>, ()>>;
+
+type SourceShape = ListOf<SourceFields>;
+
+impl Record for Source {
+    ghost use Rattle.serde_amqp.specs.Derive.{◌▸◌};
+
+    type Values = <SourceShape as Shape>::Value;
+
+    ghost parts = { λ x. x.address ▸ x.durable ▸ x.expiry_policy ▸ x.timeout ▸ x.dynamic ▸
+        x.dynamic_node_properties ▸ x.distribution_mode ▸ x.filter ▸ x.default_outcome ▸ x.outcomes
+        ▸ x.capabilities ▸ tt };
+
+    fn from_parts(values: <SourceShape as Shape>::Value) -> Source {
+        built! { values => Source {
+            address, durable, expiry_policy, timeout, dynamic, dynamic_node_properties,
+            distribution_mode, filter, default_outcome, outcomes, capabilities
+        } }
+    }
+}
+
+impl Composite for Source {
+    ghost use Rattle.std.specs.Prelude.{codes};
+    ghost use Rattle.serde_amqp.specs.Derive.{by_parts};
+
+    ghost descriptor_code = { 0x28 };
+
+    ghost descriptor_name = { codes "amqp:source:list" };
+
+    ghost body = { by_parts ⟦<SourceShape as Shape>⟧.laws ⟦<Source as Record>⟧.parts };
+
+    fn descriptor() -> (u64, &'static str) {
+        (0x28, "amqp:source:list")
+    }
+
+    #[inline(always)]
+    fn read_body<S: serde_amqp::derive::Source>(
+        alloc: Global,
+        source: S,
+    ) -> Result<(Source, S::Rest), Fault> {
+        let fields = named! {
+            "address"?, "durable"?, "expiry-policy"?, "timeout"?, "dynamic"?,
+            "dynamic-node-properties"?, "distribution-mode"?, "filter"?, "default-outcome"?,
+            "outcomes"?, "capabilities"?
+        };
+        read_shaped(alloc, source, ListOf(fields))
+    }
+}
+
+impl Serialize for Source {
+    ghost use Rattle.serde_amqp.specs.Derive.{after_code};
+
+    ghost tree = { after_code 0x28 ⟦<SourceShape as ShapeTree>⟧.tree ⟦<Source as Record>⟧.parts };
+
+    fn serialize<S: Serializer>(&self, serializer: &mut S) -> Result<S::Ok, S::Error> {
+        serializer.serialize_described(
+            &0x28u64,
+            &ListOf(fields! {
+                "address"?: &self.address, "durable"?: &self.durable,
+                "expiry-policy"?: &self.expiry_policy, "timeout"?: &self.timeout,
+                "dynamic"?: &self.dynamic,
+                "dynamic-node-properties"?: &self.dynamic_node_properties,
+                "distribution-mode"?: &self.distribution_mode, "filter"?: &self.filter,
+                "default-outcome"?: &self.default_outcome, "outcomes"?: &self.outcomes,
+                "capabilities"?: &self.capabilities
+            }),
+        )
+    }
+}
+
+impl RoundTripComposite for Source {
+    fn composite_law() {
+        composite_returns::<Source, SourceShape>();
+    }
+}
+
+impl Source {
+    ghost use Rattle.std.specs.Prelude.{◌≡◌, false};
+    ghost use Rattle.serde_amqp.specs.Derive.{value_or};
+
+    /// Returns `timeout`, or `0` if it is absent.
+    pub fn timeout_or_default(&self) -> u32
+        ensures { result ≡ value_or 0 self.now.timeout }
+    {
+        match self.timeout {
+            Some(value) => value,
+            None => 0,
+        }
+    }
+
+    /// Returns `dynamic`, or `false` if it is absent.
+    pub fn dynamic_or_default(&self) -> bool
+        ensures { result ≡ value_or false self.now.dynamic }
+    {
+        match self.dynamic {
+            Some(value) => value,
+            None => false,
+        }
+    }
+}

@@ -1,0 +1,111 @@
+//! tools/derive wrote this file from target.rt: it is not edited by hand.
+
+use super::{
+    Address, Multiple, OrderedMap, Symbol, Target, TerminusDurability, TerminusExpiryPolicy, Value,
+};
+use serde_amqp::derive::{
+    Composite, Fault, Global, ListOf, Optional, Record, RoundTripComposite, Serialize,
+    SerializeCompounds, Serializer, Shape, ShapeTree, Source, built, composite_returns, fields,
+    named, read_shaped,
+};
+
+/// What a [`Target`] is read from.
+type TargetFields = Optional<Address, Optional<TerminusDurability, TargetFields2>>;
+
+type TargetFields2 = Optional<TerminusExpiryPolicy, Optional<u32, Optional<bool, TargetFields3>>>;
+
+type TargetFields3 = Optional<OrderedMap<Symbol, Value>, TargetFields4>;
+
+type TargetFields4 = Optional<Multiple<Symbol>, ()>;
+
+type TargetShape = ListOf<TargetFields>;
+
+impl Record for Target {
+    ghost use Rattle.serde_amqp.specs.Derive.{◌▸◌};
+
+    type Values = <TargetShape as Shape>::Value;
+
+    ghost parts = { λ x. x.address ▸ x.durable ▸ x.expiry_policy ▸ x.timeout ▸ x.dynamic ▸
+        x.dynamic_node_properties ▸ x.capabilities ▸ tt };
+
+    fn from_parts(values: <TargetShape as Shape>::Value) -> Target {
+        built! { values => Target {
+            address, durable, expiry_policy, timeout, dynamic, dynamic_node_properties,
+            capabilities
+        } }
+    }
+}
+
+impl Composite for Target {
+    ghost use Rattle.std.specs.Prelude.{codes};
+    ghost use Rattle.serde_amqp.specs.Derive.{by_parts};
+
+    ghost descriptor_code = { 0x29 };
+
+    ghost descriptor_name = { codes "amqp:target:list" };
+
+    ghost body = { by_parts ⟦<TargetShape as Shape>⟧.laws ⟦<Target as Record>⟧.parts };
+
+    fn descriptor() -> (u64, &'static str) {
+        (0x29, "amqp:target:list")
+    }
+
+    #[inline(always)]
+    fn read_body<S: Source>(alloc: Global, source: S) -> Result<(Target, S::Rest), Fault> {
+        let fields = named! {
+            "address"?, "durable"?, "expiry-policy"?, "timeout"?, "dynamic"?,
+            "dynamic-node-properties"?, "capabilities"?
+        };
+        read_shaped(alloc, source, ListOf(fields))
+    }
+}
+
+impl Serialize for Target {
+    ghost use Rattle.serde_amqp.specs.Derive.{after_code};
+
+    ghost tree = { after_code 0x29 ⟦<TargetShape as ShapeTree>⟧.tree ⟦<Target as Record>⟧.parts };
+
+    fn serialize<S: Serializer>(&self, serializer: &mut S) -> Result<S::Ok, S::Error> {
+        serializer.serialize_described(
+            &0x29u64,
+            &ListOf(fields! {
+                "address"?: &self.address, "durable"?: &self.durable,
+                "expiry-policy"?: &self.expiry_policy, "timeout"?: &self.timeout,
+                "dynamic"?: &self.dynamic,
+                "dynamic-node-properties"?: &self.dynamic_node_properties,
+                "capabilities"?: &self.capabilities
+            }),
+        )
+    }
+}
+
+impl RoundTripComposite for Target {
+    fn composite_law() {
+        composite_returns::<Target, TargetShape>();
+    }
+}
+
+impl Target {
+    ghost use Rattle.std.specs.Prelude.{◌≡◌, false};
+    ghost use Rattle.serde_amqp.specs.Derive.{value_or};
+
+    /// Returns `timeout`, or `0` if it is absent.
+    pub fn timeout_or_default(&self) -> u32
+        ensures { result ≡ value_or 0 self.now.timeout }
+    {
+        match self.timeout {
+            Some(value) => value,
+            None => 0,
+        }
+    }
+
+    /// Returns `dynamic`, or `false` if it is absent.
+    pub fn dynamic_or_default(&self) -> bool
+        ensures { result ≡ value_or false self.now.dynamic }
+    {
+        match self.dynamic {
+            Some(value) => value,
+            None => false,
+        }
+    }
+}

@@ -1,0 +1,56 @@
+//! tools/derive wrote this file from gust.rt: it is not edited by hand.
+
+use super::Gust;
+use serde_amqp::derive::{
+    AfterCode, Fault, Global, ListOf, Optional, Readable, Record, Required, RoundTripReadable,
+    Serialize, SerializeCompounds, Serializer, Shape, ShapeTree, Source, built, fields, named,
+    parts_return, read_shaped,
+};
+
+/// What a [`Gust`] is read from.
+type GustFields = Required<u32, Optional<u16, Optional<u16, ()>>>;
+
+type GustShape = AfterCode<ListOf<GustFields>, 0x17>;
+
+impl Record for Gust {
+    ghost use Rattle.serde_amqp.specs.Derive.{◌▸◌};
+
+    type Values = <GustShape as Shape>::Value;
+
+    ghost parts = { λ x. x.speed ▸ x.from ▸ x.at ▸ tt };
+
+    fn from_parts(values: <GustShape as Shape>::Value) -> Gust {
+        built! { values => Gust { speed, from, at } }
+    }
+}
+
+impl Readable for Gust {
+    ghost use Rattle.serde_amqp.specs.Derive.{by_parts};
+
+    ghost laws = { by_parts ⟦<GustShape as Shape>⟧.laws ⟦<Gust as Record>⟧.parts };
+
+    #[inline(always)]
+    fn read_value<S: Source>(alloc: Global, source: S) -> Result<(Gust, S::Rest), Fault> {
+        let fields = named! { "speed", "from"?, "at"? };
+        read_shaped(alloc, source, AfterCode::<_, 0x17>(ListOf(fields)))
+    }
+}
+
+impl Serialize for Gust {
+    ghost use Rattle.serde_amqp.specs.Derive.{tree_by_parts};
+
+    ghost tree = { tree_by_parts ⟦<GustShape as ShapeTree>⟧.tree ⟦<Gust as Record>⟧.parts };
+
+    fn serialize<S: Serializer>(&self, serializer: &mut S) -> Result<S::Ok, S::Error> {
+        serializer.serialize_described(
+            &0x17u64,
+            &ListOf(fields! { "speed": &self.speed, "from"?: &self.from, "at"?: &self.at }),
+        )
+    }
+}
+
+impl RoundTripReadable for Gust {
+    fn readable_law() {
+        parts_return::<Gust, GustShape>();
+    }
+}
