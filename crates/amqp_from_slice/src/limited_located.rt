@@ -22,15 +22,15 @@ use std::alloc::Global;
 ///
 /// # Errors
 /// Returns an error of `from_slice_with`: with the place that `decode_value_located` returns if the
-/// bytes encode no value, with the field that `from_value_located` returns if the `T` cannot be read
+/// bytes encode no value, with the place that `from_slice_located` returns if the `T` cannot be read
 /// from the value, and without a place if a limit is exceeded or an allocation failed.
 ///
 /// # Memory
 /// Allocates from `alloc` as `from_slice_with` does.
 ///
 /// # Example
-/// As a `u32` and for `None`, `46` is `InvalidFormatCode` at the offset 0, `5105` is `InvalidValue`
-/// with `ValueKind::Uint` wanted, and `f000000005ffffffff40` is `TooLong`.
+/// As a `u32` and for `None`, `46` is `invalid format code at byte 0`, `5105` is
+/// `invalid value at byte 0: expected uint, found byte`, and `f000000005ffffffff40` is `too long`.
 pub fn from_slice_limited_located<T: Deserialize>(
     alloc: Global,
     bytes: &[u8],
@@ -63,7 +63,7 @@ fn read_located<T: Deserialize>(
     match decode_limited(alloc, bytes, limits) {
         Ok(value) => match from_value_located::<T>(alloc, value) {
             Ok(read) => Ok(read),
-            Err(fault) => Err(SliceError::Value(fault)),
+            Err(fault) => Err(SliceError::Value(fault.in_bytes(bytes))),
         },
         Err(error) => Err(SliceError::Bytes(with_place(error, bytes))),
     }

@@ -11,8 +11,8 @@ use amqp_data::Error;
 use amqp_decode::{Located, decode_value_located};
 use amqp_read::{Deserialize, Fault, from_value_located, read_bytes};
 use std::alloc::Global;
-use std::fmt;
 use std::fmt::{Formatter, Write};
+use std::{error, fmt};
 
 /// The maximum number of levels inside the value.
 const MOST_LEVELS: u16 = 255;
@@ -44,7 +44,7 @@ impl SliceError {
     }
 }
 
-/// The text of the error, and its place: `invalid format code at byte 17`.
+/// Writes the error and its place: `invalid format code at byte 17`.
 impl fmt::Display for SliceError {
     fn fmt<W: Write>(&self, f: &mut Formatter<W>) -> fmt::Result {
         match self {
@@ -60,6 +60,8 @@ impl fmt::Display for SliceError {
     }
 }
 
+impl error::Error for SliceError {}
+
 /// Reads a `T` from the bytes of exactly one encoded value, like `from_slice`, and says where the
 /// bytes have a fault, or which field could not be read.
 ///
@@ -67,14 +69,15 @@ impl fmt::Display for SliceError {
 ///
 /// # Errors
 /// Returns an error of `from_slice`: with the place that `decode_value_located` returns if the bytes
-/// encode no value, and otherwise with the field that `from_value_located` returns.
+/// encode no value, and otherwise with the field that `from_value_located` returns, and the offset
+/// that `Fault::in_bytes` adds.
 ///
 /// # Memory
 /// Allocates from `alloc` as `from_slice` does.
 ///
 /// # Example
-/// As a `u32`, `5246` is read, `46` is `InvalidFormatCode` at the offset 0, and `5105` is
-/// `InvalidValue` with `ValueKind::Uint` wanted and `ValueKind::Byte` found.
+/// As a `u32`, `5246` is read, `46` is `invalid format code at byte 0`, and `5105` is
+/// `invalid value at byte 0: expected uint, found byte`.
 pub fn from_slice_located<T: Deserialize>(alloc: Global, bytes: &[u8]) -> Result<T, SliceError>
     ensures read { Answers (λ e. error_in e ≡ OutOfMemory) (ReadsSpelled T.reads bytes.now) result }
     ensures law { (x : T) → T.restorable x → Spells 256 bytes.now (T.image x) →
@@ -98,7 +101,7 @@ fn read_by_value_located<T: Deserialize>(alloc: Global, bytes: &[u8]) -> Result<
     match decode_value_located(alloc, bytes) {
         Ok(value) => match from_value_located::<T>(alloc, value) {
             Ok(read) => Ok(read),
-            Err(fault) => Err(SliceError::Value(fault)),
+            Err(fault) => Err(SliceError::Value(fault.in_bytes(bytes))),
         },
         Err(located) => Err(SliceError::Bytes(located)),
     }

@@ -105,7 +105,9 @@ impl<'a> Source for Encoded<'a> {
 
     #[inline(always)]
     fn list(self) -> Result<(EncodedElements<'a>, &'a [u8]), Fault> {
-        let inside = self.inside()?;
+        let Some(inside) = self.inside() else {
+            return Err(Fault::gave_up());
+        };
         match split_list(self.code, self.bytes) {
             Ok((left, bytes, after)) => Ok((
                 EncodedElements {
@@ -122,7 +124,9 @@ impl<'a> Source for Encoded<'a> {
 
     #[inline(always)]
     fn array(self) -> Result<(EncodedElements<'a>, &'a [u8]), Fault> {
-        let inside = self.inside()?;
+        let Some(inside) = self.inside() else {
+            return Err(Fault::gave_up());
+        };
         match split_array(self.code, self.bytes) {
             Ok((left, constructor, bytes, after)) => {
                 if constructor == 0 {
@@ -144,7 +148,9 @@ impl<'a> Source for Encoded<'a> {
 
     #[inline(always)]
     fn map(self) -> Result<(EncodedEntries<'a>, &'a [u8]), Fault> {
-        let inside = self.inside()?;
+        let Some(inside) = self.inside() else {
+            return Err(Fault::gave_up());
+        };
         match split_map(self.code, self.bytes) {
             Ok((left, bytes, after)) => Ok((
                 EncodedEntries {
@@ -163,7 +169,9 @@ impl<'a> Source for Encoded<'a> {
         if self.code != 0 {
             return Err(Fault::gave_up());
         }
-        let inside = self.inside()?;
+        let Some(inside) = self.inside() else {
+            return Err(Fault::gave_up());
+        };
         let (descriptor, after) = match first_descriptor(alloc, self.bytes) {
             Ok(found) => found,
             Err(_) => return Err(Fault::gave_up()),
@@ -186,18 +194,20 @@ impl<'a> Source for Encoded<'a> {
         if elements.left == 0 {
             return None;
         }
-        if elements.constructor != 0 {
-            elements.left -= 1;
-            return Some(Encoded {
-                code: elements.constructor,
-                bytes: elements.bytes,
-                depth: elements.depth,
-            });
+        let mut code = elements.constructor;
+        let mut bytes = elements.bytes;
+        if code == 0 {
+            match bytes.split_first() {
+                Some((first, after)) => {
+                    code = *first;
+                    bytes = after;
+                }
+                None => return None,
+            }
         }
-        let (code, bytes) = elements.bytes.split_first()?;
         elements.left -= 1;
         Some(Encoded {
-            code: *code,
+            code,
             bytes,
             depth: elements.depth,
         })

@@ -1,8 +1,7 @@
 //! An encoded value as a source, and what is left of its parts.
 
-ghost use Rattle.std.specs.Prelude.{◌≡◌, suc, IfOk};
+ghost use Rattle.std.specs.Prelude.{◌≡◌, suc, IfSome};
 
-use crate::fault::Fault;
 use amqp_decode::prefix::below;
 
 /// An encoded value after its format code, with at most `depth` levels inside.
@@ -34,14 +33,14 @@ pub struct EncodedEntries<'a> {
 }
 
 impl<'a> Encoded<'a> {
-    /// Returns the number of levels inside the values inside.
+    /// Returns the number of levels inside the values inside, or `None` if there may be none.
     #[inline(always)]
-    pub(crate) fn inside(&self) -> Result<u16, Fault>
-        ensures { IfOk result (λ d. self.now.depth ≡ suc d) }
+    pub(crate) fn inside(&self) -> Option<u16>
+        ensures { IfSome result (λ d. self.now.depth ≡ suc d) }
     {
         match below(self.depth) {
-            Ok(inside) => Ok(inside),
-            Err(_) => Err(Fault::gave_up()),
+            Ok(inside) => Some(inside),
+            Err(_) => None,
         }
     }
 }

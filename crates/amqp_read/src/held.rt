@@ -50,6 +50,30 @@ fn refused(wanted: ValueKind, value: Value) -> Fault
     Fault::other(Some(wanted), found)
 }
 
+// The functions that build errors are not inlined. Each is called through one that is inlined, so
+// that the memory of its result is initialized only if there is an error.
+
+#[inline(always)]
+fn other_type<K: Scalar>(found: ValueKind) -> Fault
+    ensures { ¬ (IsMemory result) }
+{
+    Fault::other(K::kind(), found)
+}
+
+#[inline(always)]
+fn other_element<K: Scalar>(found: ValueKind, taken: usize) -> Fault
+    ensures { ¬ (IsMemory result) }
+{
+    Fault::other(K::kind(), found).after(Some(taken))
+}
+
+#[inline(always)]
+fn other_value(wanted: ValueKind, value: Value) -> Fault
+    ensures { ¬ (IsMemory result) }
+{
+    refused(wanted, value)
+}
+
 impl HeldElements {
     // Creates the elements of a list or an array.
     #[inline(always)]
@@ -130,7 +154,7 @@ impl Source for Held {
     fn null(self) -> Result<(), Fault> {
         match self.value {
             Value::Null => Ok(()),
-            other => Err(refused(ValueKind::Null, other)),
+            other => Err(other_value(ValueKind::Null, other)),
         }
     }
 
@@ -138,7 +162,7 @@ impl Source for Held {
     fn scalar<K: Scalar>(self, _alloc: Global) -> Result<(K, ()), Fault> {
         match content_of::<K>(self.value) {
             Ok(content) => Ok((content, ())),
-            Err(found) => Err(Fault::other(K::kind(), found)),
+            Err(found) => Err(other_type::<K>(found)),
         }
     }
 
@@ -152,7 +176,7 @@ impl Source for Held {
     fn list(self) -> Result<(HeldElements, ()), Fault> {
         match self.value {
             Value::List(values) => Ok((HeldElements::of(values), ())),
-            other => Err(refused(ValueKind::List, other)),
+            other => Err(other_value(ValueKind::List, other)),
         }
     }
 
@@ -160,7 +184,7 @@ impl Source for Held {
     fn array(self) -> Result<(HeldElements, ()), Fault> {
         match self.value {
             Value::Array(array) => Ok((HeldElements::of(array.into_inner()), ())),
-            other => Err(refused(ValueKind::Array, other)),
+            other => Err(other_value(ValueKind::Array, other)),
         }
     }
 
@@ -172,7 +196,7 @@ impl Source for Held {
                 let count = pairs.len();
                 Ok((HeldEntries { pairs, count }, ()))
             }
-            other => Err(refused(ValueKind::Map, other)),
+            other => Err(other_value(ValueKind::Map, other)),
         }
     }
 
@@ -188,7 +212,7 @@ impl Source for Held {
                     },
                 ))
             }
-            other => Err(refused(ValueKind::Described, other)),
+            other => Err(other_value(ValueKind::Described, other)),
         }
     }
 
@@ -211,14 +235,17 @@ impl Source for Held {
         Ok(())
     }
 
+    #[inline(always)]
     fn placed(fault: Fault, name: &'static str, taken: Option<usize>) -> Fault {
         fault.in_field(name, taken)
     }
 
+    #[inline(always)]
     fn missing(name: &'static str, taken: Option<usize>) -> Fault {
         Fault::missing(name, taken)
     }
 
+    #[inline(always)]
     fn taken(elements: &HeldElements) -> Option<usize> {
         Some(elements.count.saturating_sub(elements.values.len()))
     }
@@ -228,7 +255,8 @@ impl Source for Held {
         elements.values.len()
     }
 
-    #[inline(never)]
+    // Inlined, so that the compiler knows that the elements are contiguous, as `of` leaves them.
+    #[inline(always)]
     fn scalars<K: Scalar>(alloc: Global, elements: HeldElements) -> Result<Vec<K>, Fault> {
         let HeldElements { values, count } = elements;
         let mut values = values;
@@ -241,14 +269,10 @@ impl Source for Held {
                 None => return Ok(items),
             };
             match content_of::<K>(value) {
-                Ok(content) => {
-                    if items.push(content).is_err() {
-                        return Err(Fault::memory());
-                    }
-                }
+                Ok(content) => items.push_reserved(content),
                 Err(found) => {
                     let taken = count.saturating_sub(values.len());
-                    return Err(Fault::other(K::kind(), found).after(Some(taken)));
+                    return Err(other_element::<K>(found, taken));
                 }
             }
         }
@@ -285,6 +309,7 @@ impl Source for Held {
         Ok(())
     }
 
+    #[inline(always)]
     fn taken_entries(entries: &HeldEntries) -> Option<usize> {
         Some(entries.count.saturating_sub(entries.pairs.len()))
     }

@@ -23,6 +23,7 @@ pub mod laws;
 mod named_fields;
 mod numbered;
 mod numbers;
+mod offset;
 mod optional_fields;
 mod parts;
 mod plain_text;
@@ -31,9 +32,9 @@ mod room;
 mod scalar;
 mod seed;
 mod shape;
+mod shown;
 mod slice;
 mod source;
-mod unwritable;
 mod variants;
 
 pub use alternatives::{Alternatives, OneOfTypes};

@@ -48,10 +48,19 @@ fn next_value<V: Deserialize, S: Source>(
         Some(element) => element,
         None => return Ok(None),
     };
-    match Option::<V>::read(alloc, element) {
+    if element.is_null() {
+        return match element.null() {
+            Ok(rest) => {
+                S::resume(elements, rest);
+                Ok(None)
+            }
+            Err(fault) => Err(fault),
+        };
+    }
+    match V::read(alloc, element) {
         Ok((value, rest)) => {
             S::resume(elements, rest);
-            Ok(value)
+            Ok(Some(value))
         }
         Err(fault) => Err(S::placed(fault, name, S::taken(elements))),
     }
@@ -81,10 +90,19 @@ fn named_value<V: Deserialize, S: Source>(
         Some(entry) => entry,
         None => return Ok(None),
     };
-    match Option::<V>::read(alloc, entry) {
+    if entry.is_null() {
+        return match entry.null() {
+            Ok(rest) => {
+                S::resume_entries(entries, rest);
+                Ok(None)
+            }
+            Err(fault) => Err(fault),
+        };
+    }
+    match V::read(alloc, entry) {
         Ok((value, rest)) => {
             S::resume_entries(entries, rest);
-            Ok(value)
+            Ok(Some(value))
         }
         Err(fault) => Err(S::placed(fault, name, None)),
     }

@@ -64,8 +64,17 @@ pub(crate) fn content_of<K: Scalar>(value: Value) -> Result<K, ValueKind>
             None => Err(found),
         }
     } else {
-        from_other::<K>(value)
+        other_content::<K>(value)
     }
+}
+
+// Calls `from_other`. Inlined, so that the memory of its result is initialized in this case alone.
+#[inline(always)]
+fn other_content<K: Scalar>(value: Value) -> Result<K, ValueKind>
+    ensures ok { IfOk result (λ x. tree_of value ≡ scalar (K.content x)) }
+    ensures err { IfErr result (λ _. (x : K) → ¬ (tree_of value ≡ scalar (K.content x))) }
+{
+    from_other::<K>(value)
 }
 
 // Returns the content of a value that is probably of another type. In a function of its own, so

@@ -7,7 +7,6 @@ ghost use Rattle.amqp_read.specs.Reads.{ReadsLazy};
 use crate::deserialize::Deserialize;
 use crate::fault::Fault;
 use crate::source::Source;
-use crate::unwritable::unwritable;
 use amqp_frame::LazyValue;
 use amqp_wire::to_lazy_value;
 use std::alloc::Global;
@@ -18,8 +17,7 @@ use std::alloc::Global;
 /// The image is a placeholder.
 ///
 /// # Errors
-/// Of an untyped value returns `Invalid` or `TooLong` if it cannot be encoded, and `OutOfMemory` if
-/// an allocation fails.
+/// Of an untyped value returns the error of `to_lazy_value`.
 impl Deserialize for LazyValue {
     ghost reads = { ReadsLazy };
 
@@ -36,7 +34,7 @@ impl Deserialize for LazyValue {
         };
         match to_lazy_value(alloc, &value) {
             Ok(lazy) => Ok((lazy, rest)),
-            Err(error) => Err(unwritable(error)),
+            Err(error) => Err(Fault::from(error)),
         }
     }
 }

@@ -79,8 +79,8 @@ pub(super) fn insert_all<K: Drop, V: Drop, M: Inserts<K, V>>(
     Ok(map)
 }
 
-/// Reads all keys and values.
-#[inline(never)]
+/// Reads all keys and values. Inlined, so that the compiler knows that the entries are contiguous.
+#[inline(always)]
 fn read_entries<K: Deserialize, V: Deserialize, S: Source>(
     alloc: Global,
     entries: S::Entries,

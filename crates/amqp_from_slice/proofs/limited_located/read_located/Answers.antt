@@ -1,4 +1,4 @@
-use Rattle.std.proofs.Common.{inl, inr, ap, subst}
+use Rattle.std.proofs.Common.{inl, inr, ap, ◌∙◌, subst}
 use Rattle.amqp_value.specs.TreeOf.{tree_of}
 use Rattle.amqp_read.specs.Spelled.{error_of}
 use Rattle.amqp_from_slice.proofs.LimitedLemmas.{allowed-tree}
@@ -12,7 +12,7 @@ returns-in-Some-clause-read g c =
 pub returns-in-Err-from_value_located-clause-read : goal.returns-in-Err-from_value_located-clause-read
 returns-in-Err-from_value_located-clause-read g c =
     elim c.in-Err-from_value_located.ensures.read [
-      | inl m ↦ inl (ap error_of m)
+      | inl m ↦ inl (ap error_of (c.in_bytes.ensures.kind ∙ m))
       | inr n ↦ inr (λ x r. n x (subst (λ t. g.T.Deserialize.reads t x)
           (allowed-tree c.args.limits c.args.bytes.now r.0 (tree_of c.in-Ok.value) r.1 c.in-Ok.ensures.ok) r.2))
     ]

@@ -1,4 +1,4 @@
-use Rattle.std.proofs.Common.{inl, inr, ap}
+use Rattle.std.proofs.Common.{inl, inr, ap, ◌∙◌}
 use Rattle.amqp_value.specs.TreeOf.{tree_of}
 use Rattle.amqp_decode.proofs.Whole.{one-tree}
 use Rattle.amqp_read.specs.Results.{IsMemory}
@@ -13,11 +13,11 @@ returns-in-Ok-from_value_located-clause-law g c = λ x r sp.
 pub returns-in-Err-from_value_located-clause-read : goal.returns-in-Err-from_value_located-clause-read
 returns-in-Err-from_value_located-clause-read g c =
     elim (unread_by IsMemory g.T.Deserialize.reads c.args.bytes.now c.in-Err-from_value_located.fault (tree_of c.in-Ok.value) c.in-Ok.ensures.ok c.in-Err-from_value_located.ensures.read) [
-      | inl m ↦ inl (ap error_of m)
+      | inl m ↦ inl (ap error_of (c.in_bytes.ensures.kind ∙ m))
       | inr n ↦ inr n
     ]
 
 pub returns-in-Err-from_value_located-clause-law : goal.returns-in-Err-from_value_located-clause-law
 returns-in-Err-from_value_located-clause-law g c = λ x r sp.
     let memory : IsMemory c.in-Err-from_value_located.fault = c.in-Err-from_value_located.ensures.law x r (one-tree 256 256 c.args.bytes.now (tree_of c.in-Ok.value) (g.T.Deserialize.image x) c.in-Ok.ensures.ok sp) in
-    ap error_of memory
+    ap error_of (c.in_bytes.ensures.kind ∙ memory)

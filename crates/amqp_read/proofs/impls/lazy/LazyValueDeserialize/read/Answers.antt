@@ -13,4 +13,4 @@ returns-in-Ok-to_lazy_value-clause-read g c =
 
 pub returns-clause-read : goal.returns-clause-read
 returns-clause-read g c w =
-    unreadable c.in-Err-to_lazy_value.error c.in-Ok.read.0 _ c.unwritable.ensures.memory c.in-Ok.ensures.read.0 c.in-Err-to_lazy_value.ensures
+    unreadable c.in-Err-to_lazy_value.error c.from.result c.in-Ok.read.0 _ c.from.ensures c.in-Ok.ensures.read.0 c.in-Err-to_lazy_value.ensures
