@@ -18,7 +18,7 @@ from pathlib import Path
 ROOT = Path(__file__).resolve().parent.parent / "crates"
 LIBRARIES = (
     "amqp_calendar amqp_data amqp_frame amqp_ser amqp_size amqp_wire amqp_value amqp_to_value amqp_decode "
-    "amqp_read amqp_visit amqp_round_trip amqp_from_slice serde_amqp"
+    "amqp_de amqp_visit amqp_from_value serde_amqp"
 ).split()
 
 

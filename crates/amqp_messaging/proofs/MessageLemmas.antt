@@ -4,7 +4,7 @@ use Rattle.std.proofs.Common.{subst, sym, ap, ◌∙◌, append_assoc}
 use Rattle.std.proofs.lemmas.List.{append-nil}
 use Rattle.amqp_ser.specs.Tree.{Tree}
 use Rattle.amqp_wire.specs.Encoded.{IsWritten}
-use Rattle.amqp_from_slice.specs.declared.limited.Limits.{Limits}
+use Rattle.amqp_from_value.specs.declared.limited.Limits.{Limits}
 use Rattle.amqp_messaging.specs.Messages.{PutsFront, PutsTree, ReadsAll, ReadsWithin}
 
 -- Bytes with those of a tree after them.

@@ -5,9 +5,9 @@ use Rattle.amqp_data.specs.declared.error.Error.{Error}
 use Rattle.amqp_ser.specs.Encoding.{encoding}
 use Rattle.amqp_ser.specs.SizeAndBytes.{AreBytesOf}
 use Rattle.amqp_ser.specs.Tree.{Tree}
-use Rattle.amqp_from_slice.specs.Limited.{ReadsAllowed, limits_for}
-use Rattle.amqp_from_slice.specs.declared.limited.Limits.{Limits}
-use Rattle.amqp_from_slice.specs.declared.located.SliceError.{SliceError}
+use Rattle.amqp_from_value.specs.Limited.{ReadsAllowed, limits_for}
+use Rattle.amqp_from_value.specs.declared.limited.Limits.{Limits}
+use Rattle.amqp_from_value.specs.declared.located.SliceError.{SliceError}
 use Rattle.amqp_messaging.specs.Parts.{RefusesParts}
 use Rattle.amqp_messaging.specs.declared.bodies.AmqpSequence.{AmqpSequence}
 use Rattle.amqp_messaging.specs.declared.bodies.AmqpValue.{AmqpValue}

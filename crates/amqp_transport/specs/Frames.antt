@@ -4,9 +4,9 @@ use Rattle.std.specs.Prelude.{◌≡◌, ◌≤◌, ◌<◌, ◌*◌, ◌+◌, �
 use Rattle.std.specs.Int.{w16, w32, to_be_bytes}
 use Rattle.amqp_data.specs.declared.error.Error.TheVariants.{OutOfMemory}
 use Rattle.amqp_frame.specs.Frame.{IsFrame, HasFrame}
-use Rattle.amqp_from_slice.specs.Limited.{ReadsAllowed, limits_for}
-use Rattle.amqp_from_slice.specs.LocatedErrors.{IsLocatedWithin, error_in}
-use Rattle.amqp_from_slice.specs.declared.limited.Limits.{Limits}
+use Rattle.amqp_from_value.specs.Limited.{ReadsAllowed, limits_for}
+use Rattle.amqp_from_value.specs.LocatedErrors.{IsLocatedWithin, error_in}
+use Rattle.amqp_from_value.specs.declared.limited.Limits.{Limits}
 use Rattle.amqp_ser.specs.Encoding.{encoding}
 use Rattle.amqp_ser.specs.Tree.{Tree}
 use Rattle.amqp_transport.specs.declared.error.FrameError.{FrameError}

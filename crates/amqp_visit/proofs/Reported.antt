@@ -4,8 +4,8 @@ use Rattle.amqp_data.specs.declared.error.Error.{Error}
 use Rattle.amqp_ser.specs.Tree as tree
 use Rattle.amqp_ser.specs.Tree.{Tree, Scalar, Descriptor, scalar, trees_of}
 use Rattle.amqp_value.specs.TreeOf.{pairs_of}
-use Rattle.amqp_read.specs.Values.{elements_in, entries_in}
-use Rattle.amqp_read.proofs.Lists.{list_of_trees, entries_in_pairs}
+use Rattle.amqp_de.specs.Values.{elements_in, entries_in}
+use Rattle.amqp_de.proofs.Lists.{list_of_trees, entries_in_pairs}
 use Rattle.amqp_visit.specs.Events.{Event, Visits, plain_event, seq_event, map_event, described_event}
 use Rattle.amqp_visit.specs.Events.{ByPlain, ByList, ByArray, ByMap, ByDescribed}
 use Rattle.amqp_visit.specs.Results.{Answers, InvalidUnless}

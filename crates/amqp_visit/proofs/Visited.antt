@@ -3,8 +3,8 @@ use Rattle.std.proofs.Common.{◌≡◌, ◌⊎◌, Result, Ok, Err, inl, inr, s
 use Rattle.std.specs.Prelude.{MatchResult}
 use Rattle.amqp_data.specs.declared.error.Error.{Error}
 use Rattle.amqp_ser.specs.Tree.{Tree}
-use Rattle.amqp_read.specs.Results.{IsMemory, Takes, Brings, Refuses}
-use Rattle.amqp_read.specs.declared.fault.Fault.{Fault}
+use Rattle.amqp_de.specs.Results.{IsMemory, Takes, Brings, Refuses}
+use Rattle.amqp_de.specs.declared.fault.Fault.{Fault}
 use Rattle.amqp_visit.specs.Events.{Visits}
 use Rattle.amqp_visit.specs.Results.{IsOutOfMemory, Finishes}
 

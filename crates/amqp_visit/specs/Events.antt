@@ -16,7 +16,7 @@ use Rattle.amqp_ser.specs.Structs.{is_basic_name, is_list_name, is_map_name}
 use Rattle.amqp_ser.specs.Writable.{writable}
 use Rattle.amqp_value.specs.FormatCode.{code_of_kind}
 use Rattle.amqp_value.specs.TreeOf.{tree_of}
-use Rattle.amqp_read.specs.Values.{elements_in, entries_in}
+use Rattle.amqp_de.specs.Values.{elements_in, entries_in}
 use Rattle.amqp_visit.specs.Results.{IsOutOfMemory, Answers}
 use Rattle.amqp_visit.specs.Trees.{enum_content, enum_index, map_left, pending_value, seq_left, value_tree}
 use Rattle.amqp_visit.specs.declared.shown.Visit.{Visit}

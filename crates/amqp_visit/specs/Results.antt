@@ -3,10 +3,10 @@ use Rattle.std.specs.Prelude.{◌≡◌, ℕ, List, Result, Ok, Err}
 use Rattle.amqp_data.specs.declared.error.Error.{Error}
 use Rattle.amqp_data.specs.declared.error.Error.TheVariants as error
 use Rattle.amqp_ser.specs.Tree.{Tree}
-use Rattle.amqp_read.specs.Answers as read
-use Rattle.amqp_read.specs.Results.{IsMemory, kind_of}
-use Rattle.amqp_read.specs.Spelled.{IsOfReading, error_of}
-use Rattle.amqp_read.specs.declared.fault.Fault.{Fault}
+use Rattle.amqp_de.specs.Answers as read
+use Rattle.amqp_de.specs.Results.{IsMemory, kind_of}
+use Rattle.amqp_de.specs.Spelled.{IsOfReading, error_of}
+use Rattle.amqp_de.specs.declared.fault.Fault.{Fault}
 
 -- The error is out of memory.
 abbrev pub IsOutOfMemory : Error → Type 0

@@ -2,12 +2,12 @@
 
 ghost use Rattle.std.specs.Prelude.{◌≡◌, false, IfErr};
 ghost use Rattle.amqp_value.specs.TreeOf.{tree_of};
-ghost use Rattle.amqp_read.specs.Results.{IsMemory, Takes};
-ghost use Rattle.amqp_read.specs.Spelled.{IsOfReading};
+ghost use Rattle.amqp_de.specs.Results.{IsMemory, Takes};
+ghost use Rattle.amqp_de.specs.Spelled.{IsOfReading};
 ghost use Rattle.amqp_visit.specs.Results.{Answers, Finishes, IsFaultOf, Restores};
 
 use amqp_data::Error;
-use amqp_read::{Deserialize, Fault, FaultKind, Held, Seed, Source, from_value};
+use amqp_de::{Deserialize, Fault, FaultKind, Held, Seed, Source, from_value};
 use amqp_value::Value;
 use std::alloc::Global;
 

@@ -69,7 +69,7 @@ impl Deserializer {
     /// For the uint 3, calls `visit_enum` with this index and no value. For the map from the uint 1
     /// to the ulong 13, or the list of these two, calls `visit_enum` with the index 1 and the value
     /// 13.
-    #[tactic(auto, using(amqp_read::proofs::Lists::list_of_trees, amqp_read::proofs::Lists::entries_in_pairs))]
+    #[tactic(auto, using(amqp_de::proofs::Lists::list_of_trees, amqp_de::proofs::Lists::entries_in_pairs))]
     pub fn deserialize_variant<V: Visitor>(self, visitor: V) -> Result<V::Value, Error>
         ensures { Visits (ByVariant (V.gives visitor)) (ByVariant (V.represents visitor))
             V.same (value_tree self) result }

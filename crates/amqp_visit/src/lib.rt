@@ -2,7 +2,7 @@
 //!
 //! A [`Deserializer`] passes its value as a [`Visit`] to a [`Visitor`], which reads the parts by
 //! accessors: [`SeqAccess`], [`MapAccess`], [`EnumAccess`] and [`VariantAccess`]. It is for types
-//! whose reading the seeds of `amqp_read` do not describe. Such a type reads any source by
+//! whose reading the seeds of `amqp_de` do not describe. Such a type reads any source by
 //! [`Deserializer::from_source`] and [`finish`].
 #![tactic(auto)]
 
@@ -17,7 +17,7 @@ mod shown;
 mod visitor;
 
 pub use access::{EnumAccess, MapAccess, SeqAccess, VariantAccess};
-pub use amqp_read::{Deserialize, Of as TypeSeed, Seed as DeserializeSeed};
+pub use amqp_de::{Deserialize, Of as TypeSeed, Seed as DeserializeSeed};
 pub use deserializer::{Deserializer, finish};
 pub use shown::Visit;
 pub use visitor::Visitor;

@@ -9,9 +9,9 @@ pub use Rattle.amqp_ser.specs.Tree.{Scalar, code, name, scalar, bool, ubyte, ush
 pub use Rattle.amqp_ser.specs.Tree.{Tree, float, double, decimal32, decimal64, decimal128, timestamp, uuid, binary, string, symbol}
 pub use Rattle.amqp_ser.specs.Words.{short_list_of, list_of, short_map_of, required_value, optional_value, variant_of}
 pub use Rattle.amqp_ser.specs.declared.kind.CompoundKind.TheVariants.{NewtypeVariant}
-pub use Rattle.amqp_read.specs.Defaults.{value_or}
-pub use Rattle.amqp_read.specs.Laws.{by_parts, by_names, by_image, by_text, by_string, by_scalar}
-pub use Rattle.amqp_read.specs.Parts.{◌▸◌}
-pub use Rattle.amqp_read.specs.Places.{first, second, third, fourth, fifth, sixth, seventh, eighth, ninth, tenth}
-pub use Rattle.amqp_read.specs.Places.{rest1, rest2, rest3, rest4, rest5, rest6, rest7, rest8, rest9, rest10}
-pub use Rattle.amqp_round_trip.specs.ShapeTrees.{tree_by_parts, tree_by_names, after_code, after_code_by_names}
+pub use Rattle.amqp_de.specs.Defaults.{value_or}
+pub use Rattle.amqp_de.specs.Laws.{by_parts, by_names, by_image, by_text, by_string, by_scalar}
+pub use Rattle.amqp_de.specs.Parts.{◌▸◌}
+pub use Rattle.amqp_de.specs.Places.{first, second, third, fourth, fifth, sixth, seventh, eighth, ninth, tenth}
+pub use Rattle.amqp_de.specs.Places.{rest1, rest2, rest3, rest4, rest5, rest6, rest7, rest8, rest9, rest10}
+pub use Rattle.amqp_from_value.specs.ShapeTrees.{tree_by_parts, tree_by_names, after_code, after_code_by_names}

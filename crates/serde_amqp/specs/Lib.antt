@@ -61,20 +61,20 @@ pub use Rattle.amqp_value.specs.Text
 pub use Rattle.amqp_value.specs.TreeOf
 pub use Rattle.amqp_value.specs.declared.value.Value
 pub use Rattle.amqp_decode.specs.Depth
-pub use Rattle.amqp_read.specs.Answers
-pub use Rattle.amqp_read.specs.Composites as ReadComposites
-pub use Rattle.amqp_read.specs.Defaults
-pub use Rattle.amqp_read.specs.Enums
-pub use Rattle.amqp_read.specs.Fields
-pub use Rattle.amqp_read.specs.Laws
-pub use Rattle.amqp_read.specs.Parts
-pub use Rattle.amqp_read.specs.Places
-pub use Rattle.amqp_read.specs.Present
-pub use Rattle.amqp_read.specs.Reads
-pub use Rattle.amqp_read.specs.Results
-pub use Rattle.amqp_read.specs.Spelled
-pub use Rattle.amqp_read.specs.declared.branches.Either
-pub use Rattle.amqp_read.specs.declared.branches.Never
-pub use Rattle.amqp_read.specs.declared.fault.Fault
-pub use Rattle.amqp_read.specs.declared.fault.FaultKind
-pub use Rattle.amqp_read.specs.declared.fields.FieldValues
+pub use Rattle.amqp_de.specs.Answers
+pub use Rattle.amqp_de.specs.Composites as ReadComposites
+pub use Rattle.amqp_de.specs.Defaults
+pub use Rattle.amqp_de.specs.Enums
+pub use Rattle.amqp_de.specs.Fields
+pub use Rattle.amqp_de.specs.Laws
+pub use Rattle.amqp_de.specs.Parts
+pub use Rattle.amqp_de.specs.Places
+pub use Rattle.amqp_de.specs.Present
+pub use Rattle.amqp_de.specs.Reads
+pub use Rattle.amqp_de.specs.Results
+pub use Rattle.amqp_de.specs.Spelled
+pub use Rattle.amqp_de.specs.declared.branches.Either
+pub use Rattle.amqp_de.specs.declared.branches.Never
+pub use Rattle.amqp_de.specs.declared.fault.Fault
+pub use Rattle.amqp_de.specs.declared.fault.FaultKind
+pub use Rattle.amqp_de.specs.declared.fields.FieldValues

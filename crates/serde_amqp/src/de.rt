@@ -1,7 +1,7 @@
 //! Deserialization: the traits, the sources to read from, and helpers for user-defined types.
 
 pub use crate::{built, named, place, values, variants};
-pub use amqp_read::{
+pub use amqp_de::{
     After, AfterCode, AfterName, Alternatives, AnyOf, Branch, Branches, ByIndex, Composite,
     DataVariant, Defaulted, Describes, Deserialize, Either, Encoded, EncodedElements,
     EncodedEntries, Fault, FaultKind, FieldSeeds, FieldValues, Form, FullListOf, Held,

@@ -2,12 +2,12 @@
 //! modules, under one path.
 
 pub use crate::{built, fields, named, place, variants};
-pub use amqp_read::{
+pub use amqp_de::{
     AfterCode, AfterName, AnyOf, ByIndex, Composite, DataVariant, Defaulted, Deserialize, Either,
     Fault, FullListOf, ListOf, MapOf, Named, Nameless, Never, Of, OneOfTypes, Optional, Readable,
     Record, Required, Shape, Source, UnitVariant, read_shaped, read_string, read_symbol,
 };
-pub use amqp_round_trip::{
+pub use amqp_from_value::{
     MapKey, RoundTrip, RoundTripComposite, RoundTripReadable, ShapeTree, after_name_returns,
     composite_returns, laws, named_after_name_returns, named_composite_returns, named_parts_return,
     parts_return,

@@ -38,11 +38,11 @@ mod write;
 mod writers;
 
 pub use amqp_data::Error;
-pub use amqp_from_slice::{
+pub use amqp_de::{Fault, FaultKind, from_slice, from_value, from_value_located};
+pub use amqp_from_value::{
     Limits, SliceError, from_reader, from_reader_limited, from_slice_limited,
     from_slice_limited_located, from_slice_located, from_slice_with, round_trip_bytes,
 };
-pub use amqp_read::{Fault, FaultKind, from_slice, from_value, from_value_located};
 pub use amqp_size::serialized_size;
 pub use amqp_to_value::to_value;
 pub use amqp_value::Value;

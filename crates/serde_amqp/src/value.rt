@@ -4,7 +4,7 @@ pub mod de;
 pub mod ser;
 
 pub use crate::{list, map};
-pub use amqp_round_trip::{
+pub use amqp_from_value::{
     MapKey, RoundTrip, RoundTripAlternatives, RoundTripComposite, RoundTripReadable, ShapeTree,
     composite_returns, laws, parts_return, round_trip,
 };

@@ -7,7 +7,7 @@ ghost use Rattle.amqp_value.specs.TreeOf.{tree_of};
 
 use crate::deserializer::Deserializer;
 use amqp_data::{Error, OrderedMap};
-use amqp_read::{Deserialize, Of, Seed};
+use amqp_de::{Deserialize, Of, Seed};
 use amqp_value::Value;
 use std::alloc::Global;
 use std::collections::VecDeque;

@@ -2,7 +2,7 @@
 
 ghost use Rattle.std.specs.Prelude.{◌≡◌, Ok, IfErr, IsSomeAnd, None, codes, map};
 ghost use Rattle.amqp_data.specs.declared.error.Error.TheVariants.{InvalidValue};
-ghost use Rattle.amqp_read.specs.Fields.{There};
+ghost use Rattle.amqp_de.specs.Fields.{There};
 ghost use Rattle.amqp_value.specs.TreeOf.{tree_of};
 ghost use Rattle.amqp_visit.specs.Accepted.{IsList};
 ghost use Rattle.amqp_visit.specs.Events.{ByList, Visits};
@@ -12,7 +12,7 @@ use crate::access::SeqAccess;
 use crate::deserializer::Deserializer;
 use crate::visitor::Visitor;
 use amqp_data::Error;
-use amqp_read::{Deserialize, Of, Seed};
+use amqp_de::{Deserialize, Of, Seed};
 use amqp_value::Value;
 use std::alloc::Global;
 use std::marker::PhantomData;

@@ -5,8 +5,8 @@ use Rattle.std.specs.List.{AllZip}
 use Rattle.amqp_data.specs.Pairs.{AreDistinct}
 use Rattle.amqp_data.specs.Text.{symbol_text}
 use Rattle.amqp_ser.specs.Tree.{Tree}
-use Rattle.amqp_read.specs.Maps.{AreApart}
-use Rattle.amqp_read.proofs.MapReadings.{apart_trees}
+use Rattle.amqp_de.specs.Maps.{AreApart}
+use Rattle.amqp_de.proofs.MapReadings.{apart_trees}
 use Rattle.amqp_messaging.specs.contracts.annotation_keys.AnnotationKeyDeserialize.TheImpl as own
 use Rattle.amqp_messaging.specs.contracts.identifiers.AnnotationKeyPartialEq.TheImpl as equality
 use Rattle.amqp_messaging.specs.declared.identifiers.AnnotationKey.{AnnotationKey}

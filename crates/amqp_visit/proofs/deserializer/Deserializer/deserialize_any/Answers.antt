@@ -2,7 +2,7 @@ use Rattle.std.proofs.Common.{ap, sym, subst, ◌∙◌}
 use Rattle.std.specs.Prelude.{map}
 use Rattle.amqp_value.specs.TreeOf.{tree_of}
 use Rattle.amqp_value.proofs.TreeLemmas.{tree_of-Array, tree_of-List, tree_of-Map}
-use Rattle.amqp_read.proofs.Lists.{entries_in_pairs, list_of_trees}
+use Rattle.amqp_de.proofs.Lists.{entries_in_pairs, list_of_trees}
 use Rattle.amqp_visit.specs.Events.{Visits, any_event, map_event, seq_event}
 use Rattle.amqp_visit.proofs.deserializer.Deserializer.deserialize_any.Goals as goal
 

@@ -1,0 +1,10 @@
+use Rattle.amqp_data.specs.Fixed.{dec32_bytes}
+use Rattle.amqp_ser.specs.Tree as tree
+use Rattle.amqp_de.proofs.Contents.{contents_read, no_contents}
+use Rattle.amqp_de.proofs.impls.decimals.Dec32Deserialize.read_all.Goals as goal
+
+pub returns-clause-ok : goal.returns-clause-ok
+returns-clause-ok g c = contents_read tree.decimal32 dec32_bytes (λ a b e. cc) (λ v. v.items) _ _ c.scalars.ensures.ok
+
+pub returns-clause-law : goal.returns-clause-law
+returns-clause-law g c = no_contents tree.decimal32 dec32_bytes _ _ _ _ c.scalars.ensures.err

@@ -1,0 +1,10 @@
+use Rattle.amqp_data.specs.Fixed.{f64_bits}
+use Rattle.amqp_ser.specs.Tree as tree
+use Rattle.amqp_de.proofs.Contents.{contents_read, no_contents}
+use Rattle.amqp_de.proofs.impls.floats.F64BitsDeserialize.read_all.Goals as goal
+
+pub returns-clause-ok : goal.returns-clause-ok
+returns-clause-ok g c = contents_read tree.double f64_bits (λ a b e. cc) (λ v. v.items) _ _ c.scalars.ensures.ok
+
+pub returns-clause-law : goal.returns-clause-law
+returns-clause-law g c = no_contents tree.double f64_bits _ _ _ _ c.scalars.ensures.err

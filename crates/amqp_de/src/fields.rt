@@ -1,0 +1,168 @@
+//! The fields of a struct that are read in one call.
+
+ghost use Rattle.std.specs.Prelude.{◌≡◌, ◌⊎◌, ℕ, List, [], ◌∷◌, Bool, true, IfOk, IfErr};
+ghost use Rattle.amqp_ser.specs.Tree.{Tree};
+ghost use Rattle.amqp_de.specs.Fields.{FieldSource, by_position, by_name};
+ghost use Rattle.amqp_de.specs.Fields.{ReadsRequired, NoMoreFields};
+ghost use Rattle.amqp_de.specs.Present.{EndsEarly, required, present_fields, distinct_names};
+ghost use Rattle.amqp_de.specs.Reads.{Always};
+ghost use Rattle.amqp_de.specs.Results.{IsMemory};
+ghost use Rattle.amqp_de.specs.Steps.{Taken, TakenNamed};
+
+use crate::deserialize::Deserialize;
+use crate::fault::Fault;
+use crate::source::Source;
+use std::alloc::Global;
+use std::marker::PhantomData;
+
+/// The fields to read, in order, with their names. The macro `named!` of serde_amqp builds them.
+pub trait FieldSeeds: Sized {
+    /// The values of the fields: [`FieldValues`] of each and the others, and `()` after the last.
+    type Values;
+
+    /// Which elements or entries are read as which values.
+    ghost reads: { Self → Self.Values → FieldSource → Type 0 };
+
+    /// The names of the fields, in order.
+    ghost names: { Self → List (List ℕ) };
+
+    /// Whether each field is present, and its image, in order.
+    ghost images: { Self.Values → List (Bool × Tree) };
+
+    /// Whether every field round-trips through its image.
+    ghost restorable: { Self.Values → Type 0 };
+
+    /// Whether the fields of two values have the same contents.
+    ghost same: { Self.Values → Self.Values → Type 0 };
+
+    /// Reads the fields from elements, by position.
+    fn read_elements<S: Source>(
+        &self,
+        alloc: Global,
+        elements: S::Elements,
+    ) -> Result<Self::Values, Fault>
+        ensures ok { IfOk result
+            (Taken (reads self.now) images restorable same (S.holds elements)) }
+        ensures err { IfErr result (λ e. S.are_whole elements → IsMemory e
+            ⊎ ((x : Self.Values) → ¬ reads self.now x (by_position (S.items elements)))) }
+        ensures law { (x : Self.Values) → restorable x → EndsEarly (images x) (S.items elements) →
+            IfErr result (λ e. S.are_whole elements → IsMemory e) };
+
+    /// Reads the fields from the entries of a map, by name.
+    fn read_entries<S: Source>(
+        &self,
+        alloc: Global,
+        entries: S::Entries,
+    ) -> Result<Self::Values, Fault>
+        ensures ok { IfOk result (TakenNamed (reads self.now) (names self.now) images restorable
+            same S.needs S.only (S.holds_pairs entries)) }
+        ensures err { IfErr result (λ e. S.pairs_whole entries → IsMemory e
+            ⊎ ((x : Self.Values) → ¬ reads self.now x (by_name (S.pairs entries)))) }
+        ensures law { (x : Self.Values) → restorable x →
+            distinct_names (names self.now) ≡ true →
+            S.pairs entries ≡ present_fields (names self.now) (images x) →
+            IfErr result (λ e. S.pairs_whole entries → IsMemory e) };
+}
+
+/// No more fields.
+impl FieldSeeds for () {
+    type Values = ();
+
+    ghost reads = { λ _ _. NoMoreFields };
+
+    ghost names = { λ _. [] };
+
+    ghost images = { λ _. [] };
+
+    ghost restorable = { Always };
+
+    ghost same = { λ _ _. Unit {0} };
+
+    #[inline(always)]
+    fn read_elements<S: Source>(&self, _alloc: Global, elements: S::Elements) -> Result<(), Fault> {
+        S::close(elements)
+    }
+
+    #[inline(always)]
+    fn read_entries<S: Source>(&self, _alloc: Global, entries: S::Entries) -> Result<(), Fault> {
+        S::close_entries(entries)
+    }
+}
+
+/// The value of a field, and the values of the fields after it.
+#[derive(Debug, PartialEq, Drop)]
+pub struct FieldValues<V, R> {
+    /// The value of the field.
+    pub value: V,
+    /// The values of the fields after it; `()` if there are none.
+    pub rest: R,
+}
+
+/// A required field, and the fields after it.
+#[derive(Drop)]
+pub struct Required<V, R> {
+    /// The name of the field.
+    pub name: &'static str,
+    /// The type of the field.
+    pub of: PhantomData<V>,
+    /// The fields after it; `()` if there are none.
+    pub rest: R,
+}
+
+impl<V: Deserialize, R: FieldSeeds> FieldSeeds for Required<V, R> {
+    type Values = FieldValues<V, R::Values>;
+
+    ghost reads = { λ f x. ReadsRequired f.name.now V.reads x.value (R.reads f.rest x.rest) };
+
+    ghost names = { λ f. f.name.now ∷ R.names f.rest };
+
+    ghost images = { λ x. required (V.image x.value) ∷ R.images x.rest };
+
+    ghost restorable = { λ x. V.restorable x.value × R.restorable x.rest };
+
+    ghost same = { λ x y. V.same x.value y.value × R.same x.rest y.rest };
+
+    #[inline(always)]
+    fn read_elements<S: Source>(
+        &self,
+        alloc: Global,
+        elements: S::Elements,
+    ) -> Result<FieldValues<V, R::Values>, Fault> {
+        let mut elements = elements;
+        let element = match S::next(&mut elements) {
+            Some(element) => element,
+            None => return Err(S::missing(self.name, S::taken(&elements))),
+        };
+        let (value, rest) = match V::read(alloc, element) {
+            Ok(read) => read,
+            Err(fault) => return Err(S::placed(fault, self.name, S::taken(&elements))),
+        };
+        S::resume(&mut elements, rest);
+        match self.rest.read_elements::<S>(alloc, elements) {
+            Ok(rest) => Ok(FieldValues { value, rest }),
+            Err(fault) => Err(fault),
+        }
+    }
+
+    #[inline(always)]
+    fn read_entries<S: Source>(
+        &self,
+        alloc: Global,
+        entries: S::Entries,
+    ) -> Result<FieldValues<V, R::Values>, Fault> {
+        let mut entries = entries;
+        let entry = match S::take_named(&mut entries, self.name) {
+            Some(entry) => entry,
+            None => return Err(S::missing(self.name, None)),
+        };
+        let (value, rest) = match V::read(alloc, entry) {
+            Ok(read) => read,
+            Err(fault) => return Err(S::placed(fault, self.name, None)),
+        };
+        S::resume_entries(&mut entries, rest);
+        match self.rest.read_entries::<S>(alloc, entries) {
+            Ok(rest) => Ok(FieldValues { value, rest }),
+            Err(fault) => Err(fault),
+        }
+    }
+}

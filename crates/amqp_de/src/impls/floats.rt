@@ -1,0 +1,151 @@
+//! Binary floating-point numbers, by their bits. Each is read only from a value of its own kind.
+
+ghost use Rattle.std.specs.Prelude.{◌≡◌};
+ghost use Rattle.std.specs.Int.{w32, w64, from_be_bytes};
+ghost use Rattle.amqp_data.specs.Fixed.{f32_bits, f64_bits};
+ghost use Rattle.amqp_ser.specs.Tree.{scalar, float, double};
+ghost use Rattle.amqp_de.specs.Reads.{Always};
+
+use crate::deserialize::Deserialize;
+use crate::fault::Fault;
+use crate::numbers::{Number, read_numbers};
+use crate::scalar::Scalar;
+use crate::source::Source;
+use amqp_data::{F32Bits, F64Bits};
+use amqp_decode::prefix::{GaveUp, read_double, read_float};
+use amqp_value::{Value, ValueKind};
+use std::alloc::Global;
+
+impl Scalar for F32Bits {
+    ghost content = { λ x. float (f32_bits x) };
+
+    #[inline(always)]
+    fn kind() -> Option<ValueKind> {
+        Some(ValueKind::Float)
+    }
+
+    #[inline(always)]
+    fn from_value(value: Value) -> Option<F32Bits> {
+        match value {
+            Value::Float(content) => Some(content),
+            _ => None,
+        }
+    }
+
+    #[inline(always)]
+    fn from_bytes(_alloc: Global, code: u8, bytes: &[u8]) -> Result<(F32Bits, &[u8]), GaveUp> {
+        read_float(code, bytes)
+    }
+
+    #[inline(always)]
+    fn from_payloads(
+        alloc: Global,
+        code: u8,
+        count: u32,
+        bytes: &[u8],
+    ) -> Result<Vec<F32Bits>, GaveUp> {
+        if code != 0x72 {
+            return Err(GaveUp);
+        }
+        let items = read_numbers::<F32Bits, 4>(alloc, count, bytes)?;
+        Ok(items)
+    }
+}
+
+impl Deserialize for F32Bits {
+    ghost reads = { λ t x. t ≡ scalar (float (f32_bits x)) };
+
+    ghost image = { λ x. scalar (float (f32_bits x)) };
+
+    ghost restorable = { Always };
+
+    ghost same = { λ x y. f32_bits x ≡ f32_bits y };
+
+    #[inline(always)]
+    fn read<S: Source>(alloc: Global, source: S) -> Result<(F32Bits, S::Rest), Fault> {
+        source.scalar::<F32Bits>(alloc)
+    }
+
+    #[inline(always)]
+    fn read_all<S: Source>(alloc: Global, elements: S::Elements) -> Result<Vec<F32Bits>, Fault> {
+        S::scalars::<F32Bits>(alloc, elements)
+    }
+}
+
+impl Number<4> for F32Bits {
+    ghost is = { λ bs x. f32_bits x ≡ from_be_bytes w32 bs };
+
+    #[inline(always)]
+    fn from_payload(payload: &[u8; 4]) -> F32Bits
+        ensures { f32_bits result ≡ from_be_bytes w32 payload.now }
+    {
+        F32Bits::from(u32::from_be_bytes(*payload))
+    }
+}
+
+impl Scalar for F64Bits {
+    ghost content = { λ x. double (f64_bits x) };
+
+    #[inline(always)]
+    fn kind() -> Option<ValueKind> {
+        Some(ValueKind::Double)
+    }
+
+    #[inline(always)]
+    fn from_value(value: Value) -> Option<F64Bits> {
+        match value {
+            Value::Double(content) => Some(content),
+            _ => None,
+        }
+    }
+
+    #[inline(always)]
+    fn from_bytes(_alloc: Global, code: u8, bytes: &[u8]) -> Result<(F64Bits, &[u8]), GaveUp> {
+        read_double(code, bytes)
+    }
+
+    #[inline(always)]
+    fn from_payloads(
+        alloc: Global,
+        code: u8,
+        count: u32,
+        bytes: &[u8],
+    ) -> Result<Vec<F64Bits>, GaveUp> {
+        if code != 0x82 {
+            return Err(GaveUp);
+        }
+        let items = read_numbers::<F64Bits, 8>(alloc, count, bytes)?;
+        Ok(items)
+    }
+}
+
+impl Deserialize for F64Bits {
+    ghost reads = { λ t x. t ≡ scalar (double (f64_bits x)) };
+
+    ghost image = { λ x. scalar (double (f64_bits x)) };
+
+    ghost restorable = { Always };
+
+    ghost same = { λ x y. f64_bits x ≡ f64_bits y };
+
+    #[inline(always)]
+    fn read<S: Source>(alloc: Global, source: S) -> Result<(F64Bits, S::Rest), Fault> {
+        source.scalar::<F64Bits>(alloc)
+    }
+
+    #[inline(always)]
+    fn read_all<S: Source>(alloc: Global, elements: S::Elements) -> Result<Vec<F64Bits>, Fault> {
+        S::scalars::<F64Bits>(alloc, elements)
+    }
+}
+
+impl Number<8> for F64Bits {
+    ghost is = { λ bs x. f64_bits x ≡ from_be_bytes w64 bs };
+
+    #[inline(always)]
+    fn from_payload(payload: &[u8; 8]) -> F64Bits
+        ensures { f64_bits result ≡ from_be_bytes w64 payload.now }
+    {
+        F64Bits::from(u64::from_be_bytes(*payload))
+    }
+}

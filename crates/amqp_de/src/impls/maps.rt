@@ -1,0 +1,217 @@
+//! Maps, whose keys and values are read in order.
+
+ghost use Rattle.std.specs.Prelude.{◌≡◌, ◌⊎◌, List, [], ◌∷◌, ◌++◌, IfOk, IfErr, IsTrue, map};
+ghost use Rattle.std.specs.Bool.{OnTrue};
+ghost use Rattle.std.specs.List.{AllZip, AllByRecursion};
+ghost use Rattle.std.specs.Map.{keys_of};
+ghost use Rattle.amqp_data.specs.Pairs.{entries_of};
+ghost use Rattle.amqp_ser.specs.Tree as tree;
+ghost use Rattle.amqp_ser.specs.Tree.{Tree};
+ghost use Rattle.amqp_value.specs.Converts.{inserted_in_order};
+ghost use Rattle.amqp_value.specs.TreeOf.{pairs_of};
+ghost use Rattle.amqp_de.specs.Maps.{OnMap, ReadsPair, ReadsPairs, pair_image, IsPair, SamePair};
+ghost use Rattle.amqp_de.specs.Maps.{HoldsInOrder, HoldsSorted, AreDistinct, Ascend};
+ghost use Rattle.amqp_de.specs.Results.{IsMemory, Reading};
+
+use crate::deserialize::Deserialize;
+use crate::fault::Fault;
+use crate::keys::keys_differ;
+use crate::room::FEW_RESERVED;
+use crate::source::Source;
+use amqp_data::{OrderedMap, OrderedMapBuilder};
+use std::alloc::Global;
+use std::collections::BTreeMap;
+use std::hash::Hash;
+
+/// A map that pairs are inserted into.
+pub(super) trait Inserts<K, V>: Sized + Drop {
+    /// Which maps result from inserting these pairs, in order.
+    ghost holds: { List (K × V) → Self → Type 0 };
+
+    /// Returns an empty map, for `count` pairs if it makes room.
+    fn empty(alloc: Global, count: usize) -> Self
+        ensures { holds [] result };
+
+    /// Inserts a pair; returns `false` if an allocation fails.
+    fn put(&mut self, key: K, value: V) -> bool
+        ensures { (done : List (K × V)) → IsTrue result →
+            holds done self.old → holds (done ++ (key, value) ∷ []) self.new };
+}
+
+impl<K: Hash + Eq + Drop, V: Drop> Inserts<K, V> for OrderedMapBuilder<K, V> {
+    ghost holds = { λ done entries. entries ≡ inserted_in_order K.eq done };
+
+    fn empty(alloc: Global, count: usize) -> OrderedMapBuilder<K, V> {
+        OrderedMapBuilder::with_index(alloc, count)
+    }
+
+    fn put(&mut self, key: K, value: V) -> bool {
+        OrderedMapBuilder::insert(self, key, value).is_ok()
+    }
+}
+
+impl<K: Ord + Drop, V: Drop> Inserts<K, V> for BTreeMap<K, V> {
+    ghost holds = { HoldsSorted K.cmp };
+
+    fn empty(alloc: Global, _count: usize) -> BTreeMap<K, V> {
+        BTreeMap::new(alloc)
+    }
+
+    fn put(&mut self, key: K, value: V) -> bool {
+        BTreeMap::insert(self, key, value).is_ok()
+    }
+}
+
+/// Inserts the entries in order into an empty map.
+pub(super) fn insert_all<K: Drop, V: Drop, M: Inserts<K, V>>(
+    alloc: Global,
+    entries: Vec<(K, V)>,
+) -> Result<M, Fault>
+    ensures ok { IfOk result (M.holds entries.items) }
+    ensures err { IfErr result IsMemory }
+{
+    let mut map = M::empty(alloc, entries.len());
+    for (key, value) in entries {
+        if !map.put(key, value) {
+            return Err(Fault::memory());
+        }
+    }
+    Ok(map)
+}
+
+/// Reads all keys and values. Inlined, so that the compiler knows that the entries are contiguous.
+#[inline(always)]
+fn read_entries<K: Deserialize, V: Deserialize, S: Source>(
+    alloc: Global,
+    entries: S::Entries,
+) -> Result<Vec<(K, V)>, Fault>
+    ensures ok { IfOk result (λ v. (ps : List (Tree × Tree)) × S.holds_pairs entries ps
+        × AllZip (ReadsPair (Reading K.reads K.image K.restorable K.same)
+        (Reading V.reads V.image V.restorable V.same)) ps v.items) }
+    ensures err { IfErr result (λ e. S.pairs_whole entries → IsMemory e
+        ⊎ ((xs : List (K × V)) → ¬ AllZip (ReadsPair K.reads V.reads) (S.pairs entries) xs)) }
+    ensures law { (xs : List (K × V)) → AllByRecursion (IsPair K.restorable V.restorable) xs →
+        S.pairs entries ≡ map (pair_image K.image V.image) xs →
+        IfErr result (λ e. S.pairs_whole entries → IsMemory e) }
+{
+    let mut entries = entries;
+    let room = S::entry_room(&entries);
+    let mut items = match Vec::with_capacity(alloc, room.min(FEW_RESERVED)) {
+        Ok(items) => items,
+        Err(_) => return Err(Fault::memory()),
+    };
+    'entries: loop {
+        let (source, pending) = match S::next_key(&mut entries) {
+            Some(next) => next,
+            None => {
+                return match S::close_entries(entries) {
+                    Ok(()) => Ok(items),
+                    Err(fault) => Err(fault),
+                };
+            }
+        };
+        let (key, rest) = match K::read(alloc, source) {
+            Ok(read) => read,
+            Err(fault) => return Err(S::placed(fault, "", S::taken_entries(&entries))),
+        };
+        let source = match S::value_after(&mut entries, pending, rest) {
+            Ok(source) => source,
+            Err(fault) => return Err(fault),
+        };
+        let (value, rest) = match V::read(alloc, source) {
+            Ok(read) => read,
+            Err(fault) => return Err(S::placed(fault, "", S::taken_entries(&entries))),
+        };
+        S::resume_entries(&mut entries, rest);
+        if items.push((key, value)).is_err() {
+            return Err(Fault::memory());
+        }
+    }
+}
+
+// Reads all keys and values, of which it is certain that no key is repeated where a source may
+// repeat it.
+#[inline(always)]
+pub(super) fn read_certain<K: Deserialize, V: Deserialize, S: Source>(
+    alloc: Global,
+    entries: S::Entries,
+) -> Result<Vec<(K, V)>, Fault>
+    ensures ok { IfOk result (λ v. (ps : List (Tree × Tree))
+        × S.holds_pairs entries ps × S.apart (keys_of ps)
+        × AllZip (ReadsPair (Reading K.reads K.image K.restorable K.same)
+        (Reading V.reads V.image V.restorable V.same)) ps v.items) }
+    ensures err { IfErr result (λ e. S.pairs_whole entries → IsMemory e
+        ⊎ ((xs : List (K × V)) → ¬ AllZip (ReadsPair K.reads V.reads) (S.pairs entries) xs)) }
+    ensures law { (xs : List (K × V)) → AllByRecursion (IsPair K.restorable V.restorable) xs →
+        S.pairs entries ≡ map (pair_image K.image V.image) xs →
+        IfErr result (λ e. S.pairs_whole entries → IsMemory e) }
+{
+    let knows = S::knows_maps(&entries);
+    let items = match read_entries::<K, V, S>(alloc, entries) {
+        Ok(items) => items,
+        Err(fault) => return Err(fault),
+    };
+    if knows {
+        return Ok(items);
+    }
+    if K::have_distinct_trees(alloc, &items) {
+        Ok(items)
+    } else {
+        Err(Fault::gave_up())
+    }
+}
+
+impl<K: Deserialize + Ord, V: Deserialize> Deserialize for BTreeMap<K, V> {
+    ghost reads = { λ t m. OnMap (λ ts. ReadsPairs K.reads V.reads (HoldsSorted K.cmp) ts m) t };
+
+    ghost image = { λ m. tree.map (pairs_of (map (pair_image K.image V.image) m.entries)) };
+
+    ghost restorable = { λ m. AllByRecursion (IsPair K.restorable V.restorable) m.entries
+        × Ascend K.same K.cmp (keys_of m.entries) };
+
+    ghost same = { λ m n. AllZip (SamePair K.same V.same) m.entries n.entries };
+
+    fn read<S: Source>(alloc: Global, source: S) -> Result<(BTreeMap<K, V>, S::Rest), Fault> {
+        let (entries, rest) = match source.map() {
+            Ok(opened) => opened,
+            Err(fault) => return Err(fault),
+        };
+        let items = match read_certain::<K, V, S>(alloc, entries) {
+            Ok(items) => items,
+            Err(fault) => return Err(fault),
+        };
+        match insert_all::<K, V, BTreeMap<K, V>>(alloc, items) {
+            Ok(map) => Ok((map, rest)),
+            Err(fault) => Err(fault),
+        }
+    }
+}
+
+impl<K: Deserialize + Hash + Eq, V: Deserialize> Deserialize for OrderedMap<K, V> {
+    ghost reads = { λ t m. OnMap (λ ts. ReadsPairs K.reads V.reads (HoldsInOrder K.eq) ts m) t };
+
+    ghost image = { λ m. tree.map (pairs_of (map (pair_image K.image V.image) (entries_of m))) };
+
+    ghost restorable = { λ m. AllByRecursion (IsPair K.restorable V.restorable) (entries_of m)
+        × AreDistinct K.same K.eq (keys_of (entries_of m)) };
+
+    ghost same = { λ m n. AllZip (SamePair K.same V.same) (entries_of m) (entries_of n) };
+
+    fn read<S: Source>(alloc: Global, source: S) -> Result<(OrderedMap<K, V>, S::Rest), Fault> {
+        let (entries, rest) = match source.map() {
+            Ok(opened) => opened,
+            Err(fault) => return Err(fault),
+        };
+        let items = match read_certain::<K, V, S>(alloc, entries) {
+            Ok(items) => items,
+            Err(fault) => return Err(fault),
+        };
+        if keys_differ(alloc, &items) {
+            return Ok((OrderedMap::from_distinct(items), rest));
+        }
+        match insert_all::<K, V, OrderedMapBuilder<K, V>>(alloc, items) {
+            Ok(builder) => Ok((builder.into_map(), rest)),
+            Err(fault) => Err(fault),
+        }
+    }
+}

@@ -1,9 +1,0 @@
-use Rattle.amqp_ser.specs.Tree as tree
-use Rattle.amqp_read.proofs.Loops.{leaves_read, no_leaves}
-use Rattle.amqp_read.proofs.impls.unsigned.U16Deserialize.read_all.Goals as goal
-
-pub returns-clause-ok : goal.returns-clause-ok
-returns-clause-ok g c = leaves_read tree.ushort (λ a b e. cc) (λ v. v.items) _ _ c.scalars.ensures.ok
-
-pub returns-clause-law : goal.returns-clause-law
-returns-clause-law g c = no_leaves tree.ushort _ _ _ _ c.scalars.ensures.err

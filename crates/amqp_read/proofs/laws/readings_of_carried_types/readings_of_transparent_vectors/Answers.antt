@@ -1,7 +1,0 @@
-use Rattle.std.specs.List.{AllZip}
-use Rattle.amqp_data.specs.Items.{transparent_items}
-use Rattle.amqp_read.proofs.ReadingLaws.{on_list}
-use Rattle.amqp_read.proofs.laws.readings_of_carried_types.readings_of_transparent_vectors.Goals as goal
-
-pub returns-clause-reads : goal.returns-clause-reads
-returns-clause-reads g c = λ t v. on_list (λ ts. AllZip g.T.Deserialize.reads ts (transparent_items v)) t

@@ -1,5 +1,0 @@
-use Rattle.amqp_round_trip.proofs.FieldLemmas.{short_list_stands, kept_stands}
-use Rattle.amqp_round_trip.proofs.laws.short_lists_return.Goals as goal
-
-pub returns : goal.returns
-returns c = record { complete = short_list_stands; field = kept_stands }

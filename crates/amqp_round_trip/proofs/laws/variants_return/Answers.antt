@@ -1,5 +1,0 @@
-use Rattle.amqp_round_trip.proofs.HasImageLemmas.{fields_stand, value_stands}
-use Rattle.amqp_round_trip.proofs.laws.variants_return.Goals as goal
-
-pub returns : goal.returns
-returns c = record { value = value_stands; fields = fields_stand }

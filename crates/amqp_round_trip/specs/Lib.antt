@@ -1,4 +1,0 @@
--- Contracts of public items depend on these.
-pub mod HasImage
-pub mod FieldTrees
-pub mod ShapeTrees
