@@ -1,5 +1,5 @@
 -- What is read from encoded bytes (AMQP 1.0 part 1, sections 1.2 and 1.6).
-use Rattle.std.specs.Prelude.{ℕ, List, length, ◌+◌, ◌/◌, ◌^◌, ◌≤◌}
+use Rattle.std.specs.Prelude.{ℕ, List, length, ◌≡◌, ◌+◌, ◌/◌, ◌^◌, ◌≤◌}
 use Rattle.amqp_data.specs.declared.error.Error.{Error}
 use Rattle.amqp_data.specs.declared.error.Error.TheVariants as error
 use Rattle.amqp_ser.specs.Tree.{Tree}
@@ -34,6 +34,10 @@ kind_for error.OutOfMemory = fault.OutOfMemory
 kind_for error.TooLong = fault.TooLong
 kind_for (error.Message words) = fault.Message words
 kind_for e = fault.Invalid
+
+-- The offset of the error is known, and is n.
+abbrev pub HasOffset : Fault → ℕ → Type 0
+HasOffset e n = e.reason / 8 ≡ 2 ^ 60 + n
 
 -- The offset of the error, if it is known, is in the bytes.
 abbrev pub HasOffsetIn : List ℕ → Fault → Type 0

@@ -12,6 +12,7 @@ mod deserialize;
 mod elements;
 mod encoded;
 mod encoded_parts;
+mod errors;
 mod fault;
 mod fields;
 mod form;

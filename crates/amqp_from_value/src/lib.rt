@@ -2,9 +2,9 @@
 //! proofs that values round-trip.
 //!
 //! Reads any `amqp_de::Deserialize` type from the bytes of one encoded value within limits, or with
-//! the place of a fault; `from_reader` from the next encoded value of a reader, and `ReadLazy` from a
-//! lazy value. Each reads the type from the bytes in one pass. If that fails, it decodes the bytes
-//! to an untyped value, at most 256 deep, and reads the type from it.
+//! the place of a fault; `from_reader` from the next encoded value of a reader, and `ReadLazy` from
+//! a lazy value. Each reads the type from the bytes in one pass. If that fails, it decodes the
+//! bytes to an untyped value, at most 256 deep, and reads the type from it.
 #![tactic(auto)]
 
 mod alternatives;
