@@ -31,7 +31,8 @@ pub trait Source: Sized + Drop {
     /// What is left of a map.
     type Entries: Drop;
 
-    /// What stands for the value of a key that was taken.
+    /// The value of a key that was taken. A source of untyped values hands out the value itself, and
+    /// a source of bytes nothing: the bytes after the key are the value.
     type Pending: Drop;
 
     /// The tree of the value.
@@ -224,7 +225,8 @@ pub trait Source: Sized + Drop {
         ensures err { IfErr result (λ e. are_whole elements → IsMemory e
             ⊎ ((xs : List K) → ¬ AllZip (λ t x. t ≡ scalar (K.content x)) (items elements) xs)) };
 
-    /// Takes the next key, and what stands for its value.
+    /// Takes the next key, and the value after it as far as the source hands it out; returns `None`
+    /// after the last, and if there is none.
     fn next_key(entries: &mut Self::Entries) -> Option<(Self, Self::Pending)>
         ensures some { IfSome result (λ s. (r : Self.Rest) (t : Tree) (ps : List (Tree × Tree)) →
             left s.0 r → waits_value entries.new s.1 r t ps →
