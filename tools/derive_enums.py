@@ -133,7 +133,7 @@ def scalar(t):
     if t.reads:
         arms = [(f"{N.Value}::{SCALARS[v.type][0]}(value)", f"Ok(({t.name}::{v.name}(value), rest))") for v in t.variants]
         body = f"        let (value, rest) = match source.untyped(alloc) {{\n{OPENED}"
-        body += match_on("value", [*arms, ("_", f"Err({N.Fault}::invalid())")])
+        body += match_on("value", [*arms, ("other", f"Err({N.Fault}::unexpected(other))")])
         out.append(impl(N.Readable, t, {"laws": f"by_scalar (λ x. {content('x')})"}, reading(t, "read_value", body)))
     if t.writes:
         body = match_on("self", [(f"{t.name}::{v.name}(value)", "value.serialize(serializer)") for v in t.variants])

@@ -3,9 +3,9 @@ use Rattle.std.specs.Prelude.{List, map}
 use Rattle.std.specs.Vec.Iter.{into_iter_items}
 use Rattle.amqp_ser.specs.Tree.{Tree}
 use Rattle.amqp_value.specs.TreeOf.{tree_of}
-use Rattle.amqp_de.specs.declared.held.Held.{Held}
-use Rattle.amqp_de.specs.declared.held.HeldElements.{HeldElements}
-use Rattle.amqp_de.specs.declared.held.HeldEntries.{HeldEntries}
+use Rattle.amqp_de.specs.declared.held_parts.Held.{Held}
+use Rattle.amqp_de.specs.declared.held_parts.HeldElements.{HeldElements}
+use Rattle.amqp_de.specs.declared.held_parts.HeldEntries.{HeldEntries}
 
 abbrev pub held_tree : Held → Tree
 held_tree h = tree_of h.value

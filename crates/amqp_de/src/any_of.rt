@@ -11,7 +11,7 @@ ghost use Rattle.amqp_de.specs.declared.form.Form.TheVariants as form;
 use crate::fault::Fault;
 use crate::fields::FieldSeeds;
 use crate::form::{Form, form_of};
-use crate::held::Held;
+use crate::held_parts::Held;
 use crate::named_fields::NamedFields;
 use crate::seed::Seed;
 use crate::shape::{FullListOf, Shape};

@@ -96,7 +96,7 @@ impl Branches for NoBranch {
 #[derive(Drop)]
 pub struct Branch<K, X, R>(pub K, pub X, pub R);
 
-impl<K: Describes, X: Seed, R: Branches> Branches for Branch<K, X, R> {
+impl<K: Describes + Drop, X: Seed, R: Branches> Branches for Branch<K, X, R> {
     type Value = Either<X::Value, R::Value>;
 
     ghost reads = { λ s. IsBranch (K.wanted s.0) (X.reads s.1) (R.reads s.2) };

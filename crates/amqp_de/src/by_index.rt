@@ -8,7 +8,7 @@ ghost use Rattle.amqp_de.specs.Enums.{enum_image, index_of_tree, trees_of_pair, 
 ghost use Rattle.amqp_de.specs.Results.{IsMemory, TakesAll, BringsAll};
 
 use crate::fault::{Fault, FaultKind};
-use crate::held::Held;
+use crate::held_parts::Held;
 use crate::shape::Shape;
 use crate::source::Source;
 use crate::variants::Variants;

@@ -15,6 +15,10 @@ use std::alloc::Global;
 /// A type that is read after its descriptor, which is a code or a name (AMQP 1.0 part 1, section
 /// 1.4). Each composite implements `Deserialize`.
 ///
+/// # Implementer notes
+/// Required methods: `descriptor`, and `read_body`, which reads what follows it by the laws of
+/// `body`, mostly by [`read_shaped`](crate::read_shaped).
+///
 /// # Example
 /// The standard's header has the code `0x70` and the name `amqp:header:list`.
 pub trait Composite: Sized + Drop {

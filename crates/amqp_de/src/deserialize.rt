@@ -27,6 +27,11 @@ fn ended<T: Drop, S: Source>(elements: S::Elements, values: Vec<T>) -> Result<Ve
 }
 
 /// A type that is read from any source.
+///
+/// # Implementer notes
+/// Required method: `read`. Its value is one that `reads` relates to the tree (`read`), and from the
+/// image of a restorable value it is `same` as that value, or an allocation fails (`law`). A newtype
+/// calls the `read` of its content, as `Box` does; `have_distinct_trees` is for keys of maps.
 pub trait Deserialize: Sized + Drop {
     /// Which trees are read as which values.
     ghost reads: { Tree → Self → Type 0 };

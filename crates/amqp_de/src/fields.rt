@@ -16,6 +16,11 @@ use std::alloc::Global;
 use std::marker::PhantomData;
 
 /// The fields to read, in order, with their names. The macro `named!` of serde_amqp builds them.
+///
+/// # Implementer notes
+/// Required methods: `read_elements` and `read_entries`. They return values that `reads` relates to
+/// the elements or entries (`ok`, `err`), and from the images of restorable fields values with the
+/// same contents (`law`). [`Required`] reads a field, and leaves the others to `rest`.
 pub trait FieldSeeds: Sized {
     /// The values of the fields: [`FieldValues`] of each and the others, and `()` after the last.
     type Values;

@@ -1,13 +1,13 @@
-//! An untyped value as a source.
+//! Reading from an untyped value.
 
 ghost use Rattle.std.specs.Prelude.{◌≡◌, length};
-ghost use Rattle.std.specs.Vec.Iter.{into_iter_items};
 ghost use Rattle.amqp_value.specs.TreeOf.{tree_of};
 ghost use Rattle.amqp_de.specs.Results.{IsMemory, TakesAll, BringsAll};
 
 use crate::deserialize::Deserialize;
 use crate::fault::Fault;
 use crate::form::{Form, form_of};
+use crate::held_parts::{Held, HeldElements, HeldEntries};
 use crate::keys::find;
 use crate::scalar::{Scalar, content_of};
 use crate::source::Source;
@@ -15,30 +15,6 @@ use amqp_data::Descriptor;
 use amqp_value::{Value, ValueKind};
 use std::alloc::Global;
 use std::collections::VecDeque;
-use std::vec::IntoIter;
-
-/// An untyped value as a source.
-#[derive(Drop)]
-pub struct Held {
-    /// The value.
-    pub value: Value,
-}
-
-/// What is left of a list or an array.
-#[derive(Drop)]
-pub struct HeldElements {
-    values: IntoIter<Value>,
-    /// The number of elements at first, and of those that were asked for after the last.
-    count: usize,
-}
-
-/// What is left of a map.
-#[derive(Drop)]
-pub struct HeldEntries {
-    pairs: VecDeque<(Value, Value)>,
-    /// The number of entries at first.
-    count: usize,
-}
 
 // Drops a value of another type.
 #[inline(never)]
@@ -72,20 +48,6 @@ fn other_value(wanted: ValueKind, value: Value) -> Fault
     ensures { ¬ (IsMemory result) }
 {
     refused(wanted, value)
-}
-
-impl HeldElements {
-    // Creates the elements of a list or an array.
-    #[inline(always)]
-    fn of(values: Vec<Value>) -> HeldElements
-        ensures { into_iter_items result.values ≡ values.items }
-    {
-        let count = values.len();
-        HeldElements {
-            values: values.into_iter(),
-            count,
-        }
-    }
 }
 
 impl Source for Held {

@@ -1,6 +1,27 @@
-//! Numbers for the types of values.
+//! Numbers for the types of values, and the error for a value of a type that is not read.
 
-use amqp_value::ValueKind;
+ghost use Rattle.std.specs.Prelude.{◌≡◌};
+ghost use Rattle.amqp_de.specs.declared.fault.FaultKind.TheVariants.{Invalid};
+ghost use Rattle.amqp_de.specs.Results.{IsMemory, kind_of};
+
+use crate::fault::Fault;
+use amqp_value::{Value, ValueKind};
+
+impl Fault {
+    /// Drops a value of another type than the several that are read, and returns the error for it.
+    ///
+    /// # Example
+    /// For the uint 1, the type that is found is a uint.
+    #[inline(never)]
+    pub fn unexpected(value: Value) -> Fault
+        ensures memory { ¬ (IsMemory result) }
+        ensures kind { kind_of result ≡ Invalid }
+    {
+        let found = value.kind();
+        drop(value);
+        Fault::other(None, found)
+    }
+}
 
 /// Returns the number of a type, which is not 0 and less than 256.
 pub(crate) fn number_of(kind: ValueKind) -> u64 {

@@ -1,6 +1,7 @@
 //! Seeds, which read one value as a type, as fields, or after a descriptor.
 
 ghost use Rattle.std.specs.Prelude.{◌≡◌, ◌↔◌, IsTrue, ℕ, List, true};
+ghost use Rattle.amqp_data.specs.Text.{symbol_ref_text};
 ghost use Rattle.amqp_ser.specs.Carried.{descriptor_content};
 ghost use Rattle.amqp_ser.specs.Tree.{Tree, Descriptor as AnyDescriptor};
 ghost use Rattle.amqp_ser.specs.Tree.{code, name, list, described, trees_of};
@@ -12,12 +13,17 @@ use crate::deserialize::Deserialize;
 use crate::fault::Fault;
 use crate::fields::FieldSeeds;
 use crate::source::Source;
-use amqp_data::Descriptor;
+use amqp_data::{Descriptor, SymbolRef};
 use amqp_ser::{ListOf, MapOf};
 use std::alloc::Global;
 use std::marker::PhantomData;
 
 /// Reads one value as a type, as fields, or after a descriptor.
+///
+/// # Implementer notes
+/// Required method: `read`, which opens the source. `read` states that the tree is read as the
+/// value, or as none; `law` and `short` that a restorable value comes back from its two images,
+/// unless an allocation fails. [`Of`] is the shortest impl.
 pub trait Seed: Sized + Drop {
     /// The type of the value that is read.
     type Value: Drop;
@@ -141,11 +147,18 @@ where
 }
 
 /// A descriptor that a value must have.
-pub trait Describes: Drop {
+///
+/// # Implementer notes
+/// Required method: `is`, which compares a descriptor with `wanted`. The impl for `u64` accepts a
+/// code alone.
+pub trait Describes {
     /// The descriptor.
     ghost wanted: { Self → AnyDescriptor };
 
     /// Returns `true` if and only if `descriptor` is this one.
+    ///
+    /// # Example
+    /// `1u64` accepts only `Descriptor::Code(1)`, and `SymbolRef::from("a:b")` only the name `a:b`.
     fn is(&self, descriptor: &Descriptor) -> bool
         ensures { IsTrue result ↔ descriptor_content descriptor.now ≡ wanted self.now };
 }
@@ -162,6 +175,18 @@ impl Describes for u64 {
     }
 }
 
+impl Describes for SymbolRef<'_> {
+    ghost wanted = { λ s. name (symbol_ref_text s) };
+
+    fn is(&self, descriptor: &Descriptor) -> bool {
+        match descriptor {
+            Descriptor::Code(_) => false,
+            Descriptor::Name(symbol) => symbol.as_inner().as_str() == self.as_inner(),
+        }
+    }
+}
+
+/// A descriptor that is a symbol, given by its text.
 impl Describes for &str {
     ghost wanted = { λ s. name s.now };
 
@@ -177,7 +202,7 @@ impl Describes for &str {
 #[derive(Drop)]
 pub struct After<K, X>(pub K, pub X);
 
-impl<K: Describes, X: Seed> Seed for After<K, X> {
+impl<K: Describes + Drop, X: Seed> Seed for After<K, X> {
     type Value = X::Value;
 
     ghost reads = { λ s t x. OnDescribed (K.wanted s.0) (λ u. X.reads s.1 u x) t };

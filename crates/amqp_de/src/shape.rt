@@ -17,6 +17,10 @@ use std::alloc::Global;
 
 /// What the parts of a type are read from. Its laws are known from the type and the names of the
 /// fields, so that an impl can state them.
+///
+/// # Implementer notes
+/// Required method: `read_parts`, with `read` and `law` as in [`Deserialize`] for the members of
+/// `laws`. If the names do not matter, `names` is empty and `fits` holds, as of [`Of`].
 pub trait Shape: Sized + Drop {
     /// The parts.
     type Value: Drop;

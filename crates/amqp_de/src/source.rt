@@ -21,6 +21,11 @@ use amqp_value::Value;
 use std::alloc::Global;
 
 /// A source of one value: an untyped value, or encoded bytes that were not checked before.
+///
+/// # Implementer notes
+/// The methods without a body are required. `ok`, `some` and `none` say what is read if there is a
+/// value; `whole` and `err` are for a source that is known to hold one, as [`Held`](crate::Held)
+/// does. For [`Encoded`](crate::Encoded), whose bytes may be malformed, `is_whole` is empty.
 pub trait Source: Sized + Drop {
     /// What is left after the value.
     type Rest: Drop;
@@ -31,7 +36,7 @@ pub trait Source: Sized + Drop {
     /// What is left of a map.
     type Entries: Drop;
 
-    /// What stands for the value of a key that was taken.
+    /// The value of a key that was taken; `()` for bytes, since those after the key are the value.
     type Pending: Drop;
 
     /// The tree of the value.
@@ -101,8 +106,7 @@ pub trait Source: Sized + Drop {
         ensures other { (r : Self.Rest) → left self.now r → value self.now ≡ scalar null → IsTrue result }
         ensures whole { is_whole self.now → value self.now ≡ scalar null → IsTrue result };
 
-    /// What kind of value it probably is, so that a seed can read it at once. A source that does not
-    /// know it, as the provided method, returns `Other`.
+    /// What kind of value it probably is; `Other`, as here, if the source does not know it.
     #[inline(always)]
     fn looks(&self) -> Form
         ensures { is_whole self.now → Looks result (value self.now) }
@@ -189,8 +193,7 @@ pub trait Source: Sized + Drop {
         ensures ok { IfOk result (λ _. (ts : List Tree) × holds elements ts) }
         ensures err { IfErr result (λ e. are_whole elements → IsMemory e) };
 
-    /// Adds to an error the name of the field that could not be read, the last of this number of
-    /// elements that were taken. A source that keeps no places returns the error as it is.
+    /// Adds the name of the field, the last of this number of elements, if places are kept.
     #[inline(always)]
     fn placed(fault: Fault, _name: &'static str, _taken: Option<usize>) -> Fault
         ensures { kind_of result ≡ kind_of fault }
@@ -198,8 +201,7 @@ pub trait Source: Sized + Drop {
         fault
     }
 
-    /// The error for a required field that is missing, the last of this number of elements that were
-    /// asked for. A source that keeps no places returns [`Fault::invalid`].
+    /// The error for a missing field, the last of this number of elements, if places are kept.
     #[inline(always)]
     fn missing(_name: &'static str, _taken: Option<usize>) -> Fault
         ensures { ¬ (IsMemory result) }
@@ -224,7 +226,7 @@ pub trait Source: Sized + Drop {
         ensures err { IfErr result (λ e. are_whole elements → IsMemory e
             ⊎ ((xs : List K) → ¬ AllZip (λ t x. t ≡ scalar (K.content x)) (items elements) xs)) };
 
-    /// Takes the next key, and what stands for its value.
+    /// Takes the next key, with its value from an untyped value, and with `()` from bytes.
     fn next_key(entries: &mut Self::Entries) -> Option<(Self, Self::Pending)>
         ensures some { IfSome result (λ s. (r : Self.Rest) (t : Tree) (ps : List (Tree × Tree)) →
             left s.0 r → waits_value entries.new s.1 r t ps →

@@ -16,6 +16,11 @@ use amqp_value::ValueKind;
 use std::alloc::Global;
 
 /// The variants to read, in order. The macro `variants!` of serde_amqp builds them.
+///
+/// # Implementer notes
+/// Required methods: `read_index` and `read_value`. They return a variant that `reads` relates to
+/// the index and the value (`read`), and from the `position` and the `content` of a restorable one
+/// the same (`law`). [`UnitVariant`] tests for 0, and passes the index less 1 to `rest`.
 pub trait Variants: Sized + Drop {
     /// The type of one of the variants.
     type Value: Drop;

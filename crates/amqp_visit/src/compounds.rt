@@ -15,7 +15,14 @@ use amqp_data::Error;
 use amqp_value::Value;
 
 impl Deserializer {
-    /// Deserializes the elements of a list; any other value is `InvalidValue`.
+    /// Deserializes the elements of a list.
+    ///
+    /// # Errors
+    /// Returns `InvalidValue` if the value is not a list; otherwise the visitor's error.
+    ///
+    /// # Example
+    /// For the list of the ubytes 1 and 2, calls `visit_seq` with these two elements. An array of
+    /// them is invalid.
     pub fn deserialize_seq<V: Visitor>(self, visitor: V) -> Result<V::Value, Error>
         ensures visits { Visits (ByList (V.gives visitor)) (ByList (V.represents visitor))
             V.same (value_tree self) result }
@@ -29,6 +36,12 @@ impl Deserializer {
     }
 
     /// Deserializes a tuple, like `deserialize_seq`.
+    ///
+    /// # Errors
+    /// Returns `InvalidValue` if the value is not a list; otherwise the visitor's error.
+    ///
+    /// # Example
+    /// For the list of the ubyte 1 and `true`, calls `visit_seq` with these two elements.
     pub fn deserialize_tuple<V: Visitor>(self, visitor: V) -> Result<V::Value, Error>
         ensures visits { Visits (ByList (V.gives visitor)) (ByList (V.represents visitor))
             V.same (value_tree self) result }
@@ -37,7 +50,14 @@ impl Deserializer {
         self.deserialize_seq(visitor)
     }
 
-    /// Deserializes the elements of an array; any other value is `InvalidValue`.
+    /// Deserializes the elements of an array.
+    ///
+    /// # Errors
+    /// Returns `InvalidValue` if the value is not an array; otherwise the visitor's error.
+    ///
+    /// # Example
+    /// For the array of the ubytes 1 and 2, calls `visit_seq` with these two elements. A list of
+    /// them is invalid.
     pub fn deserialize_array<V: Visitor>(self, visitor: V) -> Result<V::Value, Error>
         ensures visits { Visits (ByArray (V.gives visitor)) (ByArray (V.represents visitor))
             V.same (value_tree self) result }
@@ -52,7 +72,13 @@ impl Deserializer {
         }
     }
 
-    /// Deserializes the keys and values of a map; any other value is `InvalidValue`.
+    /// Deserializes the keys and values of a map.
+    ///
+    /// # Errors
+    /// Returns `InvalidValue` if the value is not a map; otherwise the visitor's error.
+    ///
+    /// # Example
+    /// For the map from the ubyte 1 to `true`, calls `visit_map` with this pair.
     pub fn deserialize_map<V: Visitor>(self, visitor: V) -> Result<V::Value, Error>
         ensures visits { Visits (ByMap (V.gives visitor)) (ByMap (V.represents visitor))
             V.same (value_tree self) result }
@@ -65,7 +91,14 @@ impl Deserializer {
         }
     }
 
-    /// Deserializes a descriptor and the value after it; any other value is `InvalidValue`.
+    /// Deserializes a described value: a descriptor and the value after it.
+    ///
+    /// # Errors
+    /// Returns `InvalidValue` if the value is not described; otherwise the visitor's error.
+    ///
+    /// # Example
+    /// For `true` described by the code 1, calls `visit_described` with this code and a
+    /// deserializer of `true`. The value `true` without a descriptor is invalid.
     pub fn deserialize_described<V: Visitor>(self, visitor: V) -> Result<V::Value, Error>
         ensures visits { Visits (ByDescribed (V.gives visitor)) (ByDescribed (V.represents visitor))
             V.same (value_tree self) result }
@@ -83,7 +116,11 @@ impl Deserializer {
     }
 
     /// Deserializes a struct: the elements of a list, or, if the name is that of a described
-    /// struct, a descriptor and the value after it. Any other value is `InvalidValue`.
+    /// struct, a descriptor and the value after it.
+    ///
+    /// # Errors
+    /// Returns `InvalidValue` if the value is not a list, or, for the name of a described struct,
+    /// not a described value; otherwise the visitor's error.
     ///
     /// # Example
     /// For the list of the ubyte 1, calls `visit_seq` with this element. For that list described by
@@ -103,6 +140,12 @@ impl Deserializer {
     }
 
     /// Deserializes a tuple struct, like `deserialize_struct`.
+    ///
+    /// # Errors
+    /// Returns the errors of `deserialize_struct`.
+    ///
+    /// # Example
+    /// For the list of the ubyte 1, calls `visit_seq` with this element.
     pub fn deserialize_tuple_struct<V: Visitor>(
         self,
         name: &str,
@@ -118,6 +161,12 @@ impl Deserializer {
     }
 
     /// Ignores the value and reports null.
+    ///
+    /// # Errors
+    /// Returns the visitor's error.
+    ///
+    /// # Example
+    /// For the empty list, calls `visit_unit()`.
     pub fn deserialize_ignored_any<V: Visitor>(self, visitor: V) -> Result<V::Value, Error>
         ensures { Visits (V.gives visitor) (V.represents visitor) V.same
             (plain_event null) result }
@@ -127,6 +176,9 @@ impl Deserializer {
 
     /// Deserializes a value by its kind. A symbol, timestamp, uuid or decimal is reported as an
     /// untyped value.
+    ///
+    /// # Errors
+    /// Returns the visitor's error.
     ///
     /// # Example
     /// For `true`, calls `visit_bool(true)`. For the array of the ubyte 1, calls `visit_seq` with

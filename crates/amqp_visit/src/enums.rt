@@ -16,8 +16,11 @@ use amqp_data::Error;
 use amqp_value::Value;
 
 impl Deserializer {
-    /// Deserializes an identifier: a uint, or the text of a symbol. Any other value is
-    /// `InvalidValue`.
+    /// Deserializes an identifier: a uint, or the text of a symbol.
+    ///
+    /// # Errors
+    /// Returns `InvalidValue` if the value is neither a uint nor a symbol; otherwise the visitor's
+    /// error.
     ///
     /// # Example
     /// For the uint 1, calls `visit_u32(1)`. For the symbol `a`, calls `visit_string` with `a`. The
@@ -35,8 +38,15 @@ impl Deserializer {
         }
     }
 
-    /// Deserializes a descriptor: a ulong, or the text of a symbol. Any other value is
-    /// `InvalidValue`.
+    /// Deserializes a descriptor: a ulong, or the text of a symbol.
+    ///
+    /// # Errors
+    /// Returns `InvalidValue` if the value is neither a ulong nor a symbol; otherwise the visitor's
+    /// error.
+    ///
+    /// # Example
+    /// For the ulong 1, calls `visit_u64(1)`. For the symbol `a:b`, calls `visit_string` with
+    /// `a:b`.
     pub fn deserialize_descriptor<V: Visitor>(self, visitor: V) -> Result<V::Value, Error>
         ensures visits { Visits (ByDescriptor (V.gives visitor))
             (ByDescriptor (V.represents visitor))
@@ -104,6 +114,9 @@ impl Deserializer {
     }
 
     /// Deserializes the elements of an array, or the format code of any other value.
+    ///
+    /// # Errors
+    /// Returns the visitor's error.
     ///
     /// # Example
     /// For the uint 3, calls `visit_u8(0x70)`. For an array, calls `visit_seq` with its elements.

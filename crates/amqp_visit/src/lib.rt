@@ -12,6 +12,7 @@ mod deserializer;
 mod enums;
 mod names;
 mod newtypes;
+mod numbers;
 mod scalars;
 mod shown;
 mod visitor;

@@ -88,6 +88,10 @@ impl Deserializer {
     /// Deserializes a newtype struct: any value, or, if the name is that of a marker, the value
     /// that the marker makes, by `deserialize_marked`.
     ///
+    /// # Errors
+    /// Returns the errors of `deserialize_marked` for the marker of this name. For any other name,
+    /// and for `SYMBOL_REF`, returns the visitor's error.
+    ///
     /// # Example
     /// For the uint 1 under the name `Celsius`, calls `visit_newtype_struct` with a deserializer of
     /// it. For the symbol `a` under `SYMBOL`, calls `visit_string` with `a`.

@@ -1,8 +1,7 @@
-//! The methods of a deserializer for scalars of Rust's types.
+//! The methods of a deserializer for characters, texts and bytes, and for values that may be null.
 
 ghost use Rattle.std.specs.Prelude.{◌≡◌};
-ghost use Rattle.amqp_ser.specs.Tree.{scalar, null, bool, ubyte, ushort, uint, ulong, byte, short};
-ghost use Rattle.amqp_ser.specs.Tree.{int, long, float, double, char, string, binary};
+ghost use Rattle.amqp_ser.specs.Tree.{scalar, null, char, string, binary};
 ghost use Rattle.amqp_visit.specs.Accepted.{IsOf};
 ghost use Rattle.amqp_visit.specs.Events.{Visits, ByPlain, ByOption, ByUnit};
 ghost use Rattle.amqp_visit.specs.Results.{InvalidUnless};
@@ -14,151 +13,13 @@ use amqp_data::Error;
 use amqp_value::Value;
 
 impl Deserializer {
-    /// Deserializes a `bool` from a boolean; any other value is `InvalidValue`.
-    pub fn deserialize_bool<V: Visitor>(self, visitor: V) -> Result<V::Value, Error>
-        ensures visits { Visits (ByPlain (V.gives visitor) bool)
-            (ByPlain (V.represents visitor) bool)
-            V.same (value_tree self) result }
-        ensures invalid { InvalidUnless (IsOf bool (value_tree self)) result }
-    {
-        match self.value {
-            Value::Bool(value) => visitor.visit_bool(value),
-            _ => Err(Error::InvalidValue),
-        }
-    }
-
-    /// Deserializes a `u8` from a ubyte; any other value is `InvalidValue`.
-    pub fn deserialize_u8<V: Visitor>(self, visitor: V) -> Result<V::Value, Error>
-        ensures visits { Visits (ByPlain (V.gives visitor) ubyte)
-            (ByPlain (V.represents visitor) ubyte)
-            V.same (value_tree self) result }
-        ensures invalid { InvalidUnless (IsOf ubyte (value_tree self)) result }
-    {
-        match self.value {
-            Value::Ubyte(value) => visitor.visit_u8(value),
-            _ => Err(Error::InvalidValue),
-        }
-    }
-
-    /// Deserializes a `u16` from a ushort; any other value is `InvalidValue`.
-    pub fn deserialize_u16<V: Visitor>(self, visitor: V) -> Result<V::Value, Error>
-        ensures visits { Visits (ByPlain (V.gives visitor) ushort)
-            (ByPlain (V.represents visitor) ushort)
-            V.same (value_tree self) result }
-        ensures invalid { InvalidUnless (IsOf ushort (value_tree self)) result }
-    {
-        match self.value {
-            Value::Ushort(value) => visitor.visit_u16(value),
-            _ => Err(Error::InvalidValue),
-        }
-    }
-
-    /// Deserializes a `u32` from a uint; any other value is `InvalidValue`.
-    pub fn deserialize_u32<V: Visitor>(self, visitor: V) -> Result<V::Value, Error>
-        ensures visits { Visits (ByPlain (V.gives visitor) uint)
-            (ByPlain (V.represents visitor) uint)
-            V.same (value_tree self) result }
-        ensures invalid { InvalidUnless (IsOf uint (value_tree self)) result }
-    {
-        match self.value {
-            Value::Uint(value) => visitor.visit_u32(value),
-            _ => Err(Error::InvalidValue),
-        }
-    }
-
-    /// Deserializes a `u64` from a ulong; any other value is `InvalidValue`.
-    pub fn deserialize_u64<V: Visitor>(self, visitor: V) -> Result<V::Value, Error>
-        ensures visits { Visits (ByPlain (V.gives visitor) ulong)
-            (ByPlain (V.represents visitor) ulong)
-            V.same (value_tree self) result }
-        ensures invalid { InvalidUnless (IsOf ulong (value_tree self)) result }
-    {
-        match self.value {
-            Value::Ulong(value) => visitor.visit_u64(value),
-            _ => Err(Error::InvalidValue),
-        }
-    }
-
-    /// Deserializes an `i8` from a byte; any other value is `InvalidValue`.
-    pub fn deserialize_i8<V: Visitor>(self, visitor: V) -> Result<V::Value, Error>
-        ensures visits { Visits (ByPlain (V.gives visitor) byte)
-            (ByPlain (V.represents visitor) byte)
-            V.same (value_tree self) result }
-        ensures invalid { InvalidUnless (IsOf byte (value_tree self)) result }
-    {
-        match self.value {
-            Value::Byte(value) => visitor.visit_i8(value),
-            _ => Err(Error::InvalidValue),
-        }
-    }
-
-    /// Deserializes an `i16` from a short; any other value is `InvalidValue`.
-    pub fn deserialize_i16<V: Visitor>(self, visitor: V) -> Result<V::Value, Error>
-        ensures visits { Visits (ByPlain (V.gives visitor) short)
-            (ByPlain (V.represents visitor) short)
-            V.same (value_tree self) result }
-        ensures invalid { InvalidUnless (IsOf short (value_tree self)) result }
-    {
-        match self.value {
-            Value::Short(value) => visitor.visit_i16(value),
-            _ => Err(Error::InvalidValue),
-        }
-    }
-
-    /// Deserializes an `i32` from an int; any other value is `InvalidValue`.
-    pub fn deserialize_i32<V: Visitor>(self, visitor: V) -> Result<V::Value, Error>
-        ensures visits { Visits (ByPlain (V.gives visitor) int) (ByPlain (V.represents visitor) int)
-            V.same (value_tree self) result }
-        ensures invalid { InvalidUnless (IsOf int (value_tree self)) result }
-    {
-        match self.value {
-            Value::Int(value) => visitor.visit_i32(value),
-            _ => Err(Error::InvalidValue),
-        }
-    }
-
-    /// Deserializes an `i64` from a long; any other value is `InvalidValue`.
-    pub fn deserialize_i64<V: Visitor>(self, visitor: V) -> Result<V::Value, Error>
-        ensures visits { Visits (ByPlain (V.gives visitor) long)
-            (ByPlain (V.represents visitor) long)
-            V.same (value_tree self) result }
-        ensures invalid { InvalidUnless (IsOf long (value_tree self)) result }
-    {
-        match self.value {
-            Value::Long(value) => visitor.visit_i64(value),
-            _ => Err(Error::InvalidValue),
-        }
-    }
-
-    /// Deserializes the bits of an `f32` from a float; any other value is `InvalidValue`.
-    pub fn deserialize_f32<V: Visitor>(self, visitor: V) -> Result<V::Value, Error>
-        ensures visits { Visits (ByPlain (V.gives visitor) float)
-            (ByPlain (V.represents visitor) float)
-            V.same (value_tree self) result }
-        ensures invalid { InvalidUnless (IsOf float (value_tree self)) result }
-    {
-        let Deserializer { value, .. } = self;
-        match value {
-            Value::Float(value) => visitor.visit_f32(value),
-            _ => Err(Error::InvalidValue),
-        }
-    }
-
-    /// Deserializes the bits of an `f64` from a double; any other value is `InvalidValue`.
-    pub fn deserialize_f64<V: Visitor>(self, visitor: V) -> Result<V::Value, Error>
-        ensures visits { Visits (ByPlain (V.gives visitor) double)
-            (ByPlain (V.represents visitor) double)
-            V.same (value_tree self) result }
-        ensures invalid { InvalidUnless (IsOf double (value_tree self)) result }
-    {
-        let Deserializer { value, .. } = self;
-        match value {
-            Value::Double(value) => visitor.visit_f64(value),
-            _ => Err(Error::InvalidValue),
-        }
-    }
-
-    /// Deserializes a `char` from a char; any other value is `InvalidValue`.
+    /// Deserializes a `char` from a char.
+    ///
+    /// # Errors
+    /// Returns `InvalidValue` if the value is not a char; otherwise the visitor's error.
+    ///
+    /// # Example
+    /// For the char `a`, calls `visit_char('a')`.
     pub fn deserialize_char<V: Visitor>(self, visitor: V) -> Result<V::Value, Error>
         ensures visits { Visits (ByPlain (V.gives visitor) char)
             (ByPlain (V.represents visitor) char)
@@ -171,7 +32,13 @@ impl Deserializer {
         }
     }
 
-    /// Deserializes a `String` from a string; any other value is `InvalidValue`.
+    /// Deserializes a `String` from a string.
+    ///
+    /// # Errors
+    /// Returns `InvalidValue` if the value is not a string; otherwise the visitor's error.
+    ///
+    /// # Example
+    /// For the string `a`, calls `visit_string` with it. The symbol `a` is invalid.
     pub fn deserialize_string<V: Visitor>(self, visitor: V) -> Result<V::Value, Error>
         ensures visits { Visits (ByPlain (V.gives visitor) string)
             (ByPlain (V.represents visitor) string)
@@ -186,6 +53,12 @@ impl Deserializer {
     }
 
     /// Deserializes a string, like `deserialize_string`.
+    ///
+    /// # Errors
+    /// Returns `InvalidValue` if the value is not a string; otherwise the visitor's error.
+    ///
+    /// # Example
+    /// For the string `a`, calls `visit_string` with it.
     pub fn deserialize_str<V: Visitor>(self, visitor: V) -> Result<V::Value, Error>
         ensures visits { Visits (ByPlain (V.gives visitor) string)
             (ByPlain (V.represents visitor) string)
@@ -195,7 +68,13 @@ impl Deserializer {
         self.deserialize_string(visitor)
     }
 
-    /// Deserializes a `ByteBuf` from a binary; any other value is `InvalidValue`.
+    /// Deserializes a `ByteBuf` from a binary.
+    ///
+    /// # Errors
+    /// Returns `InvalidValue` if the value is not a binary; otherwise the visitor's error.
+    ///
+    /// # Example
+    /// For the binary 01, 02, calls `visit_byte_buf` with it. A list of ubytes is invalid.
     pub fn deserialize_byte_buf<V: Visitor>(self, visitor: V) -> Result<V::Value, Error>
         ensures visits { Visits (ByPlain (V.gives visitor) binary)
             (ByPlain (V.represents visitor) binary)
@@ -210,6 +89,12 @@ impl Deserializer {
     }
 
     /// Deserializes a binary, like `deserialize_byte_buf`.
+    ///
+    /// # Errors
+    /// Returns `InvalidValue` if the value is not a binary; otherwise the visitor's error.
+    ///
+    /// # Example
+    /// For the binary 01, 02, calls `visit_byte_buf` with it.
     pub fn deserialize_bytes<V: Visitor>(self, visitor: V) -> Result<V::Value, Error>
         ensures visits { Visits (ByPlain (V.gives visitor) binary)
             (ByPlain (V.represents visitor) binary)
@@ -220,6 +105,13 @@ impl Deserializer {
     }
 
     /// Deserializes an `Option`: null as `None`, and any other value as `Some`.
+    ///
+    /// # Errors
+    /// Returns the visitor's error.
+    ///
+    /// # Example
+    /// For null, calls `visit_none()`. For the uint 5, calls `visit_some` with a deserializer of
+    /// it.
     pub fn deserialize_option<V: Visitor>(self, visitor: V) -> Result<V::Value, Error>
         ensures { Visits (ByOption (V.gives visitor)) (ByOption (V.represents visitor))
             V.same (value_tree self) result }
@@ -230,7 +122,13 @@ impl Deserializer {
         }
     }
 
-    /// Deserializes `()` from null; any other value is `InvalidValue`.
+    /// Deserializes `()` from null.
+    ///
+    /// # Errors
+    /// Returns `InvalidValue` if the value is not null; otherwise the visitor's error.
+    ///
+    /// # Example
+    /// For null, calls `visit_unit()`. The boolean `false` is invalid.
     pub fn deserialize_unit<V: Visitor>(self, visitor: V) -> Result<V::Value, Error>
         ensures visits { Visits (ByUnit (V.gives visitor)) (ByUnit (V.represents visitor))
             V.same (value_tree self) result }
@@ -243,6 +141,12 @@ impl Deserializer {
     }
 
     /// Deserializes a unit struct, like `deserialize_unit`. The name is ignored.
+    ///
+    /// # Errors
+    /// Returns `InvalidValue` if the value is not null; otherwise the visitor's error.
+    ///
+    /// # Example
+    /// For null and any name, calls `visit_unit()`.
     pub fn deserialize_unit_struct<V: Visitor>(
         self,
         _name: &str,

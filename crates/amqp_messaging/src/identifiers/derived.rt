@@ -28,7 +28,7 @@ impl Readable for MessageId {
             Value::Uuid(value) => Ok((MessageId::Uuid(value), rest)),
             Value::Binary(value) => Ok((MessageId::Binary(value), rest)),
             Value::String(value) => Ok((MessageId::String(value), rest)),
-            _ => Err(Fault::invalid()),
+            other => Err(Fault::unexpected(other)),
         }
     }
 }
@@ -68,7 +68,7 @@ impl Readable for Address {
         };
         match value {
             Value::String(value) => Ok((Address::String(value), rest)),
-            _ => Err(Fault::invalid()),
+            other => Err(Fault::unexpected(other)),
         }
     }
 }
