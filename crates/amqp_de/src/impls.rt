@@ -22,6 +22,7 @@ mod lists;
 mod maps;
 mod multiple;
 mod signed;
+mod sorted_hashes;
 mod texts;
 mod transparent;
 mod tuples;

@@ -7,7 +7,6 @@ ghost use Rattle.std.specs.Map.{keys_of};
 ghost use Rattle.amqp_data.specs.Pairs.{entries_of};
 ghost use Rattle.amqp_ser.specs.Tree as tree;
 ghost use Rattle.amqp_ser.specs.Tree.{Tree};
-ghost use Rattle.amqp_value.specs.Converts.{inserted_in_order};
 ghost use Rattle.amqp_value.specs.TreeOf.{pairs_of};
 ghost use Rattle.amqp_de.specs.Maps.{OnMap, ReadsPair, ReadsPairs, pair_image, IsPair, SamePair};
 ghost use Rattle.amqp_de.specs.Maps.{HoldsInOrder, HoldsSorted, AreDistinct, Ascend};
@@ -15,11 +14,12 @@ ghost use Rattle.amqp_de.specs.Results.{IsMemory, Reading};
 
 use crate::deserialize::Deserialize;
 use crate::fault::Fault;
+use crate::impls::sorted_hashes::insert_by_hashes;
 use crate::keys::keys_differ;
 use crate::room::FEW_RESERVED;
 use crate::source::Source;
-use amqp_data::{OrderedMap, OrderedMapBuilder};
-use std::alloc::Global;
+use amqp_data::OrderedMap;
+use std::alloc::{AllocError, Global};
 use std::collections::BTreeMap;
 use std::hash::Hash;
 
@@ -36,18 +36,6 @@ pub(super) trait Inserts<K, V>: Sized + Drop {
     fn put(&mut self, key: K, value: V) -> bool
         ensures { (done : List (K × V)) → IsTrue result →
             holds done self.old → holds (done ++ (key, value) ∷ []) self.new };
-}
-
-impl<K: Hash + Eq + Drop, V: Drop> Inserts<K, V> for OrderedMapBuilder<K, V> {
-    ghost holds = { λ done entries. entries ≡ inserted_in_order K.eq done };
-
-    fn empty(alloc: Global, count: usize) -> OrderedMapBuilder<K, V> {
-        OrderedMapBuilder::with_index(alloc, count)
-    }
-
-    fn put(&mut self, key: K, value: V) -> bool {
-        OrderedMapBuilder::insert(self, key, value).is_ok()
-    }
 }
 
 impl<K: Ord + Drop, V: Drop> Inserts<K, V> for BTreeMap<K, V> {
@@ -77,6 +65,20 @@ pub(super) fn insert_all<K: Drop, V: Drop, M: Inserts<K, V>>(
         }
     }
     Ok(map)
+}
+
+// Makes a map of the entries, inserted in order.
+fn once_each<K: Hash + Eq + Drop, V: Drop>(
+    alloc: Global,
+    entries: Vec<(K, V)>,
+) -> Result<OrderedMap<K, V>, AllocError>
+    ensures { IfOk result (HoldsInOrder K.eq entries.items) }
+{
+    if keys_differ(alloc, &entries) {
+        Ok(OrderedMap::from_distinct(entries))
+    } else {
+        insert_by_hashes(alloc, entries)
+    }
 }
 
 /// Reads all keys and values. Inlined, so that the compiler knows that the entries are contiguous.
@@ -206,12 +208,9 @@ impl<K: Deserialize + Hash + Eq, V: Deserialize> Deserialize for OrderedMap<K, V
             Ok(items) => items,
             Err(fault) => return Err(fault),
         };
-        if keys_differ(alloc, &items) {
-            return Ok((OrderedMap::from_distinct(items), rest));
-        }
-        match insert_all::<K, V, OrderedMapBuilder<K, V>>(alloc, items) {
-            Ok(builder) => Ok((builder.into_map(), rest)),
-            Err(fault) => Err(fault),
+        match once_each(alloc, items) {
+            Ok(map) => Ok((map, rest)),
+            Err(_) => Err(Fault::memory()),
         }
     }
 }
