@@ -138,7 +138,7 @@ def settings(line, text, keys, flags):
 def type_of(line, name, text):
     """The type of a field, which AMQP has."""
     text = re.sub(r"\s+", " ", text.strip())
-    word = next((it for it in re.findall(r"(?<![:\w])[a-z]\w*(?!\w*\s*::)", text) if it not in PRIMITIVE and it not in ("mut", "dyn", "fn")), None)
+    word = next((it for it in re.findall(r"(?<![:\w'])[a-z]\w*(?!\w*\s*::)", text) if it not in PRIMITIVE and it not in ("mut", "dyn", "fn")), None)
     if word:
         raise Wrong(line, f"{name}: `{word}` is no type of AMQP" + (f": write {INSTEAD[word]}" if word in INSTEAD else ""))
     if "&" in text:
