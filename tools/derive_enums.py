@@ -2,7 +2,7 @@
 
 from types import SimpleNamespace
 
-from derive_structs import field_rows, field_step, named, said_shape, shape_tree, tree_of
+from derive_structs import field_rows, field_step, named, shape_tree, tree_of
 from derive_terms import N, aliases, built, cases, filled, function, impl, law, macro, parts, quote, reading, serialize, uses, words_in
 
 # of a scalar type: the variant of Value, its kind in a tree, and what the kind contains
@@ -56,7 +56,7 @@ def described(t):
     others = "others" in t.flags
     types = [v.type for v in t.variants]
     lines = aliases(f"{t.name}Types", [f"{N.Either}<{it}, " for it in types[:len(types) - others]], types[-1] if others else N.Never)
-    out = [said_shape(t, [*lines, f"type {t.name}Shape = {N.OneOfTypes}<{t.name}Types>;\n"]),
+    out = ["\n".join([*lines, f"type {t.name}Shape = {N.OneOfTypes}<{t.name}Types>;\n"]),
            enum_record(t, [(f"{v.name} v", "v", "value", f"{t.name}::{v.name}(value)", others and v is t.variants[-1]) for v in t.variants])]
     if t.reads:
         out.append(read_parts(t, f"{N.OneOfTypes}({N.PhantomData})"))
@@ -85,7 +85,8 @@ def texts(t, content):
         out += f"\n    /// Returns the value with this text, if there is one.\n    pub fn from_text(text: &str) -> Option<{t.name}>\n" \
             f"{''.join(lines[1:])}    {{\n{tests}        None\n    }}\n"
         more = f"    ghost use Rattle.{t.module}.{t.name}.{{{t.name}}};\n"
-    return f"impl {t.name} {{\n{uses(' '.join(said), t)}{more}\n{out}}}\n"
+    used = uses(" ".join(said), t) + more
+    return f"impl {t.name} {{\n{used}" + "\n" * bool(used) + f"{out}}}\n"
 
 
 def other(t):
@@ -205,7 +206,7 @@ def index(t):
         arms.append((" ".join([v.name, *held]), values, pattern, body, False))
     if t.reads:
         lines = aliases(f"{t.name}Variants", steps, "()")
-        out += [said_shape(t, [*lines, f"type {t.name}Shape = {N.ByIndex}<{t.name}Variants>;\n"]),
+        out += ["\n".join([*lines, f"type {t.name}Shape = {N.ByIndex}<{t.name}Variants>;\n"]),
                 enum_record(t, arms),
                 read_parts(t, f"{N.ByIndex}(variants)", macro(f"let variants = {N.variants}!", rows, ";", " " * 8))]
     if t.writes:

@@ -1,6 +1,7 @@
 """The impls of annotated structs: lists, maps and single values, with or without a descriptor."""
 
-from derive_terms import N, aliases, built, function, impl, law, macro, parts, quote, reading, serialize, uses
+from derive_terms import N, aliases, built, filled, function, impl, law, macro, parts, quote, reading, serialize, uses, words_in
+from derive_types import RESERVED
 
 
 def fields_shape(t, opens, fields, closes):
@@ -24,18 +25,13 @@ def number(f):
     return {"false": "0", "true": "1"}.get(f.default, f.default)
 
 
-def said_shape(t, lines):
-    """The types that name a shape, with a comment."""
-    return f"/// What {'an' if t.name[0] in 'AEIOU' else 'a'} [`{t.name}`] is read from.\n" + "\n".join(lines)
-
-
 def shape(t):
     """The types that name the shape."""
     lines = aliases(f"{t.name}Fields", [field_step(f) for f in t.fields], "()") if t.fields and t.encoding != "basic" else []
     whole = inner_shape(t)
     if not t.composite:
         whole = f"{N.AfterCode}<{whole}, {t.code}>" if t.code else f"{N.AfterName}<{whole}>" if t.symbol else whole
-    return said_shape(t, [*lines, f"type {t.name}Shape = {whole};\n"])
+    return "\n".join([*lines, f"type {t.name}Shape = {whole};\n"])
 
 
 def holding(t, value):
@@ -158,16 +154,32 @@ def round_trip(t):
     return law(t, *((N.RoundTripComposite, "composite_law") if t.composite else (N.RoundTripReadable, "readable_law")), *first, call)
 
 
+def constructor(t):
+    """The function that takes the required fields."""
+    word = lambda f: f"«{f.member}»" if f.member in RESERVED else f.member
+    absent = lambda f: f.default if f.seed == "Defaulted" else "None"
+    arguments = ", ".join(f"{f.member}: {f.type}" for f in t.fields if f.seed == "Required")
+    values = " ▸ ".join([*(word(f) if f.seed == "Required" else absent(f) for f in t.fields), "tt"])
+    uses("≡ ▸ " + " ".join(absent(f) for f in t.fields if f.seed != "Required"), t)
+    ensures = filled(words_in(f"ensures {{ {parts(t)} result ≡ {values} }}"), " " * 12, " " * 8)
+    rows = "".join(f"            {f.member}{'' if f.seed == 'Required' else f': {absent(f)}'},\n" for f in t.fields)
+    seeds = {f.seed for f in t.fields}
+    said = "Returns a value with these fields." + " The others are `None`." * (seeds == {"Required", "Optional"}) + \
+        " The others are `None`, or have their default." * ("Defaulted" in seeds)
+    return f"    /// {said}\n    pub fn new({arguments}) -> {t.name}\n" \
+        f"{ensures}\n    {{\n        {t.name} {{\n{rows}        }}\n    }}\n"
+
+
 def defaults(t):
     """Methods that return the default of a field that is absent."""
-    out, said_by = [], []
+    out = []
     for f in (f for f in t.fields if f.default and f.optional):
         said = f"result ≡ value_or {f.default} {f.of('self.now')}"
-        said_by.append(said)
+        uses(said, t)
         out.append(f"    /// Returns `{f.member}`, or `{f.default}` if it is absent.\n    pub fn {f.member}_or_default(&self) -> {f.inner}\n"
                    f"        ensures {{ {said} }}\n    {{\n"
-                   f"        match self.{f.member} {{\n            Some(value) => value,\n            None => {f.default},\n        }}\n    }}\n")
-    return [f"impl {t.name} {{\n{uses(' '.join(said_by), t)}\n" + "\n".join(out) + "}\n"] if out else []
+                   f"        self.{f.member}.unwrap_or({f.default})\n    }}\n")
+    return out
 
 
 def write_newtype(t):
@@ -183,4 +195,5 @@ def struct_impls(t):
     out += [round_trip(t)] if t.round_trips else []
     if "map_key" in t.flags:
         out.append(law(t, N.MapKey, "image_is_injective", f"<{t.fields[0].type} as {N.MapKey}>::image_is_injective()"))
-    return out + defaults(t)
+    own = [constructor(t)] * ("new" in t.flags) + defaults(t)
+    return out + ([f"impl {t.name} {{\n" + "\n".join(own) + "}\n"] if own else [])

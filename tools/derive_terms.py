@@ -6,7 +6,7 @@ import textwrap
 WIDTH = 100
 # where the definitions are that a ghost member may name
 PLACES = (
-    ("std.specs.Prelude", "◌≡◌ Some [] ◌∷◌ List Option Bool ℕ true false codes string_bytes IfSome IfNone"),
+    ("std.specs.Prelude", "◌≡◌ Some None [] ◌∷◌ List Option Bool ℕ true false codes string_bytes IfSome IfNone"),
     ("serde_amqp.specs.Derive",
      "symbol_text byte_buf_bytes f32_bits f64_bits dec32_bytes dec64_bytes dec128_bytes milliseconds_of uuid_bytes optional Tree Scalar "
      "code name scalar bool ubyte ushort uint ulong byte short int long char float double decimal32 decimal64 decimal128 timestamp uuid "
@@ -32,7 +32,7 @@ class Library:
         held = {it for f in fields for it in re.findall(r"(?<![\w:])[A-Za-z_]\w*", f.type)}
         self.of_file = {t.name for t in types} | {it for it in held if it in known or it[0].isupper() and it not in PRELUDE}
         self.others = self.of_file - words(use for use in uses if use.startswith("serde_amqp::"))
-        self.used = set()
+        self.used, self.terms = set(), ""
 
     def __getattr__(self, name):
         if name in self.others:
@@ -44,7 +44,19 @@ class Library:
         """The lines that import what the impls name: of the annotated file, and of the library."""
         code = code_in(impls)
         of_file = sorted(it for it in self.of_file if re.search(rf"(?<![\w:]){it}\b", code))
-        return f"use super::{{{', '.join(of_file)}}};\nuse serde_amqp::derive::{{{', '.join(sorted(self.used - self.of_file))}}};\n"
+        of_library = ", ".join(sorted(self.used - self.of_file))
+        return f"{self.imports_of_terms()}\nuse super::{{{', '.join(of_file)}}};\nuse serde_amqp::derive::{{{of_library}}};\n"
+
+    def imports_of_terms(self):
+        """The lines that import what the terms name."""
+        bare = re.sub(r'⟦[^⟧]*⟧(\.\w+)+|"[^"]*"', "", self.terms)
+        has = lambda n: SIGNS[n] in bare if n in SIGNS else re.search(rf"(?<![\w.«]){n}(?![\w»])", bare)
+        out = ""
+        for place, names in PLACES:
+            head = f"ghost use Rattle.{place}.{{"
+            found = rows_of([n for n in names.split() if has(n)], " " * len(head))
+            out += "".join(f"{head}{line.strip().rstrip(',')}}};\n" for line in found.split("\n") if line.strip())
+        return out
 
 
 def code_in(text):
@@ -73,15 +85,9 @@ def rows_of(rows, indent):
 
 
 def uses(terms, t):
-    """The lines that import what the terms name, among them the variants of an enum."""
-    bare = re.sub(r'⟦[^⟧]*⟧(\.\w+)+|"[^"]*"', "", terms)
-    has = lambda n: SIGNS[n] in bare if n in SIGNS else re.search(rf"(?<![\w.«]){n}(?![\w»])", bare)
-    out = ""
-    for place, names in PLACES:
-        head = f"    ghost use Rattle.{place}.{{"
-        found = rows_of([n for n in names.split() if has(n)], " " * len(head))
-        out += "".join(f"{head}{line.strip().rstrip(',')}}};\n" for line in found.split("\n") if line.strip())
-    return out + (f"    ghost use Rattle.{t.module}.{t.name}.TheVariants as variant;\n" if "variant." in terms else "")
+    """The line that imports the variants of an enum, if the terms name them. The file imports what else they name."""
+    N.terms += f"{terms}\n"
+    return f"    ghost use Rattle.{t.module}.{t.name}.TheVariants as variant;\n" if "variant." in terms else ""
 
 
 def member(name, term):
@@ -91,7 +97,7 @@ def member(name, term):
 
 
 def impl(trait, t, members, *functions, types=()):
-    """An impl: the imports of its ghost members, its types, its ghost members and its functions."""
+    """An impl: what imports the variants, its types, its ghost members and its functions."""
     items = [used] if (used := uses("\n".join(members.values()), t)) else []
     items += [f"    type {name} = {value};\n" for name, value in types] + [member(*it) for it in members.items()]
     return f"impl {trait} for {t.name} {{\n" + "\n".join([*items, *functions]) + "}\n"

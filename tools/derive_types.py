@@ -5,7 +5,7 @@ import re
 STRUCT_ENCODINGS = ("list", "map", "basic")
 ENUM_ENCODINGS = ("described", "restricted", "scalar", "index")
 SOURCES = ("bool", "u8", "u16", "u32", "u64", "String", "Symbol")
-FLAGS = ("full", "by_name", "map_key", "others", "no_round_trip", "write_only", "read_only")
+FLAGS = ("full", "by_name", "map_key", "others", "new", "no_round_trip", "write_only", "read_only")
 KEYS = ("encoding", "code", "name", "rename_all", "source", "values")
 DEFAULTED = ("bool", "u8", "u16", "u32", "u64")
 # what to write in place of a type that AMQP does not have
@@ -276,6 +276,8 @@ def check(t):
         raise Wrong(line, f"{n} has no variants")
     if t.encoding == "scalar" and len({v.type for v in t.variants}) != len(t.variants):
         raise Wrong(line, f"{n} has two variants of one type")
+    if "new" in t.flags and (not t.reads or t.is_tuple or t.encoding == "basic" or all(f.seed != "Required" for f in t.fields)):
+        raise Wrong(line, "new is for a list or a map that is read, with names and a required field: without one, derive Default")
     if "map_key" in t.flags and t.encoding != "scalar" and not t.transparent:
         raise Wrong(line, 'map_key is for encoding = "scalar", and for "basic" without a descriptor')
     for f in t.fields + [f for v in t.variants for f in v.fields]:

@@ -4,7 +4,7 @@ from types_table import PARTS
 
 PAGE = """# AMQP's own types
 
-The crate [amqp_types](src/lib.rt) has these types, most from the crates below it, which `tools/types` writes from [types_table.txt](../../tools/types_table.txt). Each is written and read, after the code of its descriptor or after its name. `!` marks a mandatory field, `[]` one with several values, an `Option<Multiple<T>>`, and `=` the default, which the method `FIELD_or_default` returns for `None`. `Unknown` keeps a value with another descriptor. The check proves of each type that it is read back from what is written (`RoundTrip::law`).
+The crate [amqp_types](src/lib.rt) has these types, most from the crates below it, which `tools/types` writes from [types_table.txt](../../tools/types_table.txt). Each is written and read, after the code of its descriptor or after its name. `!` marks a mandatory field, `[]` one with several values, an `Option<Multiple<T>>`, and `=` the default, which the method `FIELD_or_default` returns for `None`. A type with mandatory fields has a function `new` of these, any other list has `Default`; the other fields are `None`: `Open { channel_max: Some(7), ..Open::new(id) }`. Types that contain no field of several values have `Clone`. `Unknown` keeps a value with another descriptor. The check proves of each type that it is read back from what is written (`RoundTrip::law`).
 
 [`Message`](../amqp_messaging/README.md) is read from and written as its sections, `LazyMessage` without decoding the body. [amqp_transport](../amqp_transport/src/lib.rt) has the frames that carry messages, and protocol headers.
 """

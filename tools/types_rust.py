@@ -6,8 +6,6 @@ import textwrap
 # the crate of the type that keeps values with other descriptors
 COMMON = "amqp_messaging"
 PRIMITIVES = ("ByteBuf", "Multiple", "OrderedMap", "Symbol", "Timestamp", "Uuid")
-# the types that are not Copy, nor compared with Eq
-DERIVE = {"choice": "Debug, Clone, Copy, PartialEq, Eq", "key": "Debug, PartialEq, Eq, Hash, Drop", "": "Debug, PartialEq, Drop"}
 
 
 def doc(text, indent=""):
@@ -22,15 +20,24 @@ def said(t):
     encoding = {
         "list": f"A list of the fields, described by the code {t.code}.",
         "section": f"The value, described by the code {t.code}.",
-        "choice": f"A {t.source} that is one of {len(t.fields)}.",
-        "scalar": "The value of the variant.",
-        "described": "The composite of the variant.",
-    }[t.kind]
-    return out + "///\n/// # Encoding\n" + doc(encoding)
+    }.get(t.kind)
+    return out + ("///\n/// # Encoding\n" + doc(encoding) if encoding else "")
 
 
-def derive(t):
-    return f"#[derive({DERIVE['choice' if t.kind == 'choice' else 'key' if t.key else '']})]\n"
+def derive(table, t):
+    traits = ["Debug", "Clone" * clones(table, t), "Copy" * (t.kind == "choice"), "Default" * (t.kind == "list" and not has_mandatory(t)), "PartialEq",
+              "Eq" * (t.kind == "choice" or t.key), "Hash" * t.key, "Drop" * (t.kind != "choice")]
+    return f"#[derive({', '.join(filter(None, traits))})]\n"
+
+
+def clones(table, t):
+    """Whether the type has `Clone`, which `Multiple` does not have."""
+    types = [] if t.kind == "choice" else [table.types[f.type] for f in t.fields if f.type in table.types]
+    return not any(f.multiple for f in t.fields) and all(clones(table, it) for it in types)
+
+
+def has_mandatory(t):
+    return any(f.mandatory for f in t.fields)
 
 
 def field_type(table, f):
@@ -45,8 +52,8 @@ def is_plain(f):
 
 
 def struct(table, t):
-    rename = ', rename_all = "kebab-case"' if t.fields else ""
-    out = f'// amqp: encoding = "list", code = {t.code}, name = "{t.symbol}"{rename}\n{derive(t)}'
+    rename = ', rename_all = "kebab-case"' * bool(t.fields) + ", new" * has_mandatory(t)
+    out = f'// amqp: encoding = "list", code = {t.code}, name = "{t.symbol}"{rename}\n{derive(table, t)}'
     if not t.fields:
         return out + f"pub struct {t.rust};\n"
     rows = ""
@@ -63,7 +70,7 @@ def choice(table, t):
     line = ", ".join(values)
     source = {"boolean": "bool", "ubyte": "u8", "uint": "u32", "symbol": "Symbol"}[t.source]
     rows = "".join(doc(f.comment, "    ") + f"    {variant(f)},\n" for f in t.fields)
-    return f'// amqp: encoding = "restricted", source = "{source}", values = [{line}]\n{derive(t)}pub enum {t.rust} {{\n{rows}}}\n'
+    return f'// amqp: encoding = "restricted", source = "{source}", values = [{line}]\n{derive(table, t)}pub enum {t.rust} {{\n{rows}}}\n'
 
 
 def variant(f):
@@ -78,11 +85,11 @@ def enum(table, t):
         rows += doc(comment, "    ") + f"    {variant(f)}({table.rust(f.type)}),\n"
     if t.others:
         rows += doc("A described value of another type, which is kept.", "    ") + "    Other(Unknown),\n"
-    return f'// amqp: encoding = "{t.kind}"{flags}\n{derive(t)}pub enum {t.rust} {{\n{rows}}}\n'
+    return f'// amqp: encoding = "{t.kind}"{flags}\n{derive(table, t)}pub enum {t.rust} {{\n{rows}}}\n'
 
 
 def section(table, t):
-    return f'// amqp: encoding = "basic", code = {t.code}, name = "{t.symbol}"\n{derive(t)}pub struct {t.rust}(pub {table.rust(t.source)});\n'
+    return f'// amqp: encoding = "basic", code = {t.code}, name = "{t.symbol}"\n{derive(table, t)}pub struct {t.rust}(pub {table.rust(t.source)});\n'
 
 
 def defaults(table, t):
@@ -95,7 +102,7 @@ def defaults(table, t):
         out.append(doc(f"Returns `{f.member}`, or `{of.rust}::{value}` if it is absent.", "    ") +
                    f"    pub fn {f.member}_or_default(&self) -> {of.rust}\n"
                    f"        ensures {{ result ≡ value_or {snake(of.rust)}.{value} self.now.{f.member} }}\n    {{\n"
-                   f"        match self.{f.member} {{\n            Some(value) => value,\n            None => {of.rust}::{value},\n        }}\n    }}\n")
+                   f"        self.{f.member}.unwrap_or({of.rust}::{value})\n    }}\n")
     if not out:
         return ""
     known = "    ghost use Rattle.std.specs.Prelude.{◌≡◌};\n    ghost use Rattle.serde_amqp.specs.Derive.{value_or};\n"

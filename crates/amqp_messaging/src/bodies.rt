@@ -10,7 +10,7 @@ use serde_amqp::primitives::ByteBuf;
 /// # Encoding
 /// The value, described by the code 0x75.
 // amqp: encoding = "basic", code = 0x75, name = "amqp:data:binary"
-#[derive(Debug, PartialEq, Drop)]
+#[derive(Debug, Clone, PartialEq, Drop)]
 pub struct Data(pub ByteBuf);
 
 /// A body of a list of values, or a part of it (AMQP 1.0 part 3, section 3.2.7).
@@ -18,7 +18,7 @@ pub struct Data(pub ByteBuf);
 /// # Encoding
 /// The value, described by the code 0x76.
 // amqp: encoding = "basic", code = 0x76, name = "amqp:amqp-sequence:list"
-#[derive(Debug, PartialEq, Drop)]
+#[derive(Debug, Clone, PartialEq, Drop)]
 pub struct AmqpSequence(pub Vec<Value>);
 
 /// A body of one value (AMQP 1.0 part 3, section 3.2.8).
@@ -26,5 +26,5 @@ pub struct AmqpSequence(pub Vec<Value>);
 /// # Encoding
 /// The value, described by the code 0x77.
 // amqp: encoding = "basic", code = 0x77, name = "amqp:amqp-value:*"
-#[derive(Debug, PartialEq, Drop)]
+#[derive(Debug, Clone, PartialEq, Drop)]
 pub struct AmqpValue(pub Value);

@@ -10,8 +10,8 @@ use serde_amqp::primitives::{OrderedMap, Symbol};
 ///
 /// # Encoding
 /// A list of the fields, described by the code 0x23.
-// amqp: encoding = "list", code = 0x23, name = "amqp:received:list", rename_all = "kebab-case"
-#[derive(Debug, PartialEq, Drop)]
+// amqp: encoding = "list", code = 0x23, name = "amqp:received:list", rename_all = "kebab-case", new
+#[derive(Debug, Clone, PartialEq, Drop)]
 pub struct Received {
     /// The section that was received in part, from 0.
     pub section_number: u32,
@@ -24,7 +24,7 @@ pub struct Received {
 /// # Encoding
 /// A list of the fields, described by the code 0x24.
 // amqp: encoding = "list", code = 0x24, name = "amqp:accepted:list"
-#[derive(Debug, PartialEq, Drop)]
+#[derive(Debug, Clone, Default, PartialEq, Drop)]
 pub struct Accepted;
 
 /// The message is invalid and cannot be processed (AMQP 1.0 part 3, section 3.4.3).
@@ -32,7 +32,7 @@ pub struct Accepted;
 /// # Encoding
 /// A list of the fields, described by the code 0x25.
 // amqp: encoding = "list", code = 0x25, name = "amqp:rejected:list", rename_all = "kebab-case"
-#[derive(Debug, PartialEq, Drop)]
+#[derive(Debug, Clone, Default, PartialEq, Drop)]
 pub struct Rejected {
     /// Why the message was rejected.
     pub error: Option<AmqpError>,
@@ -43,7 +43,7 @@ pub struct Rejected {
 /// # Encoding
 /// A list of the fields, described by the code 0x26.
 // amqp: encoding = "list", code = 0x26, name = "amqp:released:list"
-#[derive(Debug, PartialEq, Drop)]
+#[derive(Debug, Clone, Default, PartialEq, Drop)]
 pub struct Released;
 
 /// The message was not processed, and was changed (AMQP 1.0 part 3, section 3.4.5).
@@ -51,7 +51,7 @@ pub struct Released;
 /// # Encoding
 /// A list of the fields, described by the code 0x27.
 // amqp: encoding = "list", code = 0x27, name = "amqp:modified:list", rename_all = "kebab-case"
-#[derive(Debug, PartialEq, Drop)]
+#[derive(Debug, Clone, Default, PartialEq, Drop)]
 pub struct Modified {
     /// Whether the delivery counts as failed.
     pub delivery_failed: Option<bool>,

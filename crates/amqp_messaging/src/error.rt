@@ -9,8 +9,8 @@ use serde_amqp::primitives::{OrderedMap, Symbol};
 ///
 /// # Encoding
 /// A list of the fields, described by the code 0x1d.
-// amqp: encoding = "list", code = 0x1d, name = "amqp:error:list", rename_all = "kebab-case"
-#[derive(Debug, PartialEq, Drop)]
+// amqp: encoding = "list", code = 0x1d, name = "amqp:error:list", rename_all = "kebab-case", new
+#[derive(Debug, Clone, PartialEq, Drop)]
 pub struct AmqpError {
     /// The kind of the error, such as a value of `AmqpCondition`.
     pub condition: Symbol,

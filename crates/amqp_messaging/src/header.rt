@@ -7,7 +7,7 @@ mod derived;
 /// # Encoding
 /// A list of the fields, described by the code 0x70.
 // amqp: encoding = "list", code = 0x70, name = "amqp:header:list", rename_all = "kebab-case"
-#[derive(Debug, PartialEq, Drop)]
+#[derive(Debug, Clone, Default, PartialEq, Drop)]
 pub struct Header {
     /// Whether the message must survive a failure of a node.
     // amqp: default = false

@@ -5,11 +5,8 @@ mod derived;
 use serde_amqp::primitives::{ByteBuf, Symbol, Uuid};
 
 /// The identifier of a message (sections 3.2.11 to 3.2.14) (AMQP 1.0 part 3, section 3.2.11).
-///
-/// # Encoding
-/// The value of the variant.
 // amqp: encoding = "scalar"
-#[derive(Debug, PartialEq, Drop)]
+#[derive(Debug, Clone, PartialEq, Drop)]
 pub enum MessageId {
     /// A number.
     Ulong(u64),
@@ -22,22 +19,16 @@ pub enum MessageId {
 }
 
 /// The address of a node (AMQP 1.0 part 3, section 3.2.15).
-///
-/// # Encoding
-/// The value of the variant.
 // amqp: encoding = "scalar"
-#[derive(Debug, PartialEq, Drop)]
+#[derive(Debug, Clone, PartialEq, Drop)]
 pub enum Address {
     /// A text, the only type that the standard defines.
     String(String),
 }
 
 /// The key of an annotation (AMQP 1.0 part 3, section 3.2.10).
-///
-/// # Encoding
-/// The value of the variant.
 // amqp: encoding = "scalar", map_key, write_only
-#[derive(Debug, PartialEq, Eq, Hash, Drop)]
+#[derive(Debug, Clone, PartialEq, Eq, Hash, Drop)]
 pub enum AnnotationKey {
     /// A symbol.
     Symbol(Symbol),

@@ -10,7 +10,7 @@ use serde_amqp::primitives::{ByteBuf, Symbol, Timestamp};
 /// # Encoding
 /// A list of the fields, described by the code 0x73.
 // amqp: encoding = "list", code = 0x73, name = "amqp:properties:list", rename_all = "kebab-case"
-#[derive(Debug, PartialEq, Drop)]
+#[derive(Debug, Clone, Default, PartialEq, Drop)]
 pub struct Properties {
     /// The identifier of the message.
     pub message_id: Option<MessageId>,

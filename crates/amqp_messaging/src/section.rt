@@ -9,11 +9,8 @@ use crate::properties::Properties;
 use crate::unknown::Unknown;
 
 /// A section of a message (AMQP 1.0 part 3, section 3.2).
-///
-/// # Encoding
-/// The composite of the variant.
 // amqp: encoding = "described", others
-#[derive(Debug, PartialEq, Drop)]
+#[derive(Debug, Clone, PartialEq, Drop)]
 pub enum Section {
     /// How a message is delivered.
     Header(Header),

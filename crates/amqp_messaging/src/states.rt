@@ -8,11 +8,8 @@ use crate::unknown::Unknown;
 use serde_amqp::primitives::ByteBuf;
 
 /// The outcome of a delivery (AMQP 1.0 part 3, section 3.4).
-///
-/// # Encoding
-/// The composite of the variant.
 // amqp: encoding = "described", others
-#[derive(Debug, PartialEq, Drop)]
+#[derive(Debug, Clone, PartialEq, Drop)]
 pub enum Outcome {
     /// The message was processed.
     Accepted(Accepted),
@@ -32,8 +29,8 @@ pub enum Outcome {
 ///
 /// # Encoding
 /// A list of the fields, described by the code 0x34.
-// amqp: encoding = "list", code = 0x34, name = "amqp:transactional-state:list", rename_all = "kebab-case"
-#[derive(Debug, PartialEq, Drop)]
+// amqp: encoding = "list", code = 0x34, name = "amqp:transactional-state:list", rename_all = "kebab-case", new
+#[derive(Debug, Clone, PartialEq, Drop)]
 pub struct TransactionalState {
     /// The transaction.
     pub txn_id: ByteBuf,
@@ -42,11 +39,8 @@ pub struct TransactionalState {
 }
 
 /// The state of a delivery (AMQP 1.0 part 3, section 3.4).
-///
-/// # Encoding
-/// The composite of the variant.
 // amqp: encoding = "described", others
-#[derive(Debug, PartialEq, Drop)]
+#[derive(Debug, Clone, PartialEq, Drop)]
 pub enum DeliveryState {
     /// How much of a message has been received.
     Received(Received),

@@ -10,7 +10,7 @@ use serde_amqp::primitives::ByteBuf;
 /// # Encoding
 /// A list of the fields, described by the code 0x31.
 // amqp: encoding = "list", code = 0x31, name = "amqp:declare:list", rename_all = "kebab-case"
-#[derive(Debug, PartialEq, Drop)]
+#[derive(Debug, Clone, Default, PartialEq, Drop)]
 pub struct Declare {
     /// The distributed transaction, which the standard does not define.
     pub global_id: Option<Value>,
@@ -20,8 +20,8 @@ pub struct Declare {
 ///
 /// # Encoding
 /// A list of the fields, described by the code 0x32.
-// amqp: encoding = "list", code = 0x32, name = "amqp:discharge:list", rename_all = "kebab-case"
-#[derive(Debug, PartialEq, Drop)]
+// amqp: encoding = "list", code = 0x32, name = "amqp:discharge:list", rename_all = "kebab-case", new
+#[derive(Debug, Clone, PartialEq, Drop)]
 pub struct Discharge {
     /// The transaction.
     pub txn_id: ByteBuf,
@@ -33,8 +33,8 @@ pub struct Discharge {
 ///
 /// # Encoding
 /// A list of the fields, described by the code 0x33.
-// amqp: encoding = "list", code = 0x33, name = "amqp:declared:list", rename_all = "kebab-case"
-#[derive(Debug, PartialEq, Drop)]
+// amqp: encoding = "list", code = 0x33, name = "amqp:declared:list", rename_all = "kebab-case", new
+#[derive(Debug, Clone, PartialEq, Drop)]
 pub struct Declared {
     /// The transaction.
     pub txn_id: ByteBuf,

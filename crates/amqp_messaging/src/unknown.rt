@@ -18,7 +18,7 @@ use serde_amqp::{Error, Value};
 ///
 /// # Encoding
 /// That of the described value.
-#[derive(Debug, PartialEq, Drop)]
+#[derive(Debug, Clone, PartialEq, Drop)]
 pub struct Unknown(pub Described<Value>);
 
 impl Serialize for Unknown {

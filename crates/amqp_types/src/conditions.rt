@@ -3,9 +3,6 @@
 mod derived;
 
 /// Kinds of errors of any part (AMQP 1.0 part 2, section 2.8.15).
-///
-/// # Encoding
-/// A symbol that is one of 13.
 // amqp: encoding = "restricted", source = "Symbol", values = ["amqp:internal-error", "amqp:not-found", "amqp:unauthorized-access", "amqp:decode-error", "amqp:resource-limit-exceeded", "amqp:not-allowed", "amqp:invalid-field", "amqp:not-implemented", "amqp:resource-locked", "amqp:precondition-failed", "amqp:resource-deleted", "amqp:illegal-state", "amqp:frame-size-too-small"]
 #[derive(Debug, Clone, Copy, PartialEq, Eq)]
 pub enum AmqpCondition {
@@ -38,9 +35,6 @@ pub enum AmqpCondition {
 }
 
 /// Kinds of errors of a connection (AMQP 1.0 part 2, section 2.8.16).
-///
-/// # Encoding
-/// A symbol that is one of 3.
 // amqp: encoding = "restricted", source = "Symbol", values = ["amqp:connection:forced", "amqp:connection:framing-error", "amqp:connection:redirect"]
 #[derive(Debug, Clone, Copy, PartialEq, Eq)]
 pub enum ConnectionCondition {

@@ -10,7 +10,7 @@ use serde_amqp::primitives::{Multiple, OrderedMap, Symbol};
 ///
 /// # Encoding
 /// A list of the fields, described by the code 0x10.
-// amqp: encoding = "list", code = 0x10, name = "amqp:open:list", rename_all = "kebab-case"
+// amqp: encoding = "list", code = 0x10, name = "amqp:open:list", rename_all = "kebab-case", new
 #[derive(Debug, PartialEq, Drop)]
 pub struct Open {
     /// The name of the container that sends the frame.

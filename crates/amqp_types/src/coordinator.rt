@@ -10,16 +10,13 @@ use serde_amqp::primitives::{Multiple, Symbol};
 /// # Encoding
 /// A list of the fields, described by the code 0x30.
 // amqp: encoding = "list", code = 0x30, name = "amqp:coordinator:list", rename_all = "kebab-case"
-#[derive(Debug, PartialEq, Drop)]
+#[derive(Debug, Default, PartialEq, Drop)]
 pub struct Coordinator {
     /// What the coordinator supports, such as values of `TxnCapability`.
     pub capabilities: Option<Multiple<Symbol>>,
 }
 
 /// What a coordinator supports (AMQP 1.0 part 4, section 4.5.7).
-///
-/// # Encoding
-/// A symbol that is one of 5.
 // amqp: encoding = "restricted", source = "Symbol", values = ["amqp:local-transactions", "amqp:distributed-transactions", "amqp:promotable-transactions", "amqp:multi-txns-per-ssn", "amqp:multi-ssns-per-txn"]
 #[derive(Debug, Clone, Copy, PartialEq, Eq)]
 pub enum TxnCapability {
@@ -36,9 +33,6 @@ pub enum TxnCapability {
 }
 
 /// The target of an attach (AMQP 1.0 part 2, section 2.7.3).
-///
-/// # Encoding
-/// The composite of the variant.
 // amqp: encoding = "described"
 #[derive(Debug, PartialEq, Drop)]
 pub enum AnyTarget {

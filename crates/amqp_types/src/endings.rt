@@ -8,8 +8,8 @@ use amqp_messaging::AmqpError;
 ///
 /// # Encoding
 /// A list of the fields, described by the code 0x16.
-// amqp: encoding = "list", code = 0x16, name = "amqp:detach:list", rename_all = "kebab-case"
-#[derive(Debug, PartialEq, Drop)]
+// amqp: encoding = "list", code = 0x16, name = "amqp:detach:list", rename_all = "kebab-case", new
+#[derive(Debug, Clone, PartialEq, Drop)]
 pub struct Detach {
     /// The link.
     pub handle: u32,
@@ -25,7 +25,7 @@ pub struct Detach {
 /// # Encoding
 /// A list of the fields, described by the code 0x17.
 // amqp: encoding = "list", code = 0x17, name = "amqp:end:list", rename_all = "kebab-case"
-#[derive(Debug, PartialEq, Drop)]
+#[derive(Debug, Clone, Default, PartialEq, Drop)]
 pub struct End {
     /// Why the session ends, if there is an error.
     pub error: Option<AmqpError>,
@@ -36,7 +36,7 @@ pub struct End {
 /// # Encoding
 /// A list of the fields, described by the code 0x18.
 // amqp: encoding = "list", code = 0x18, name = "amqp:close:list", rename_all = "kebab-case"
-#[derive(Debug, PartialEq, Drop)]
+#[derive(Debug, Clone, Default, PartialEq, Drop)]
 pub struct Close {
     /// Why the connection is closed, if there is an error.
     pub error: Option<AmqpError>,

@@ -3,9 +3,6 @@
 mod derived;
 
 /// Kinds of errors of a session (AMQP 1.0 part 2, section 2.8.17).
-///
-/// # Encoding
-/// A symbol that is one of 4.
 // amqp: encoding = "restricted", source = "Symbol", values = ["amqp:session:window-violation", "amqp:session:errant-link", "amqp:session:handle-in-use", "amqp:session:unattached-handle"]
 #[derive(Debug, Clone, Copy, PartialEq, Eq)]
 pub enum SessionCondition {
@@ -20,9 +17,6 @@ pub enum SessionCondition {
 }
 
 /// Kinds of errors of a link (AMQP 1.0 part 2, section 2.8.18).
-///
-/// # Encoding
-/// A symbol that is one of 5.
 // amqp: encoding = "restricted", source = "Symbol", values = ["amqp:link:detach-forced", "amqp:link:transfer-limit-exceeded", "amqp:link:message-size-exceeded", "amqp:link:redirect", "amqp:link:stolen"]
 #[derive(Debug, Clone, Copy, PartialEq, Eq)]
 pub enum LinkCondition {
@@ -39,9 +33,6 @@ pub enum LinkCondition {
 }
 
 /// Kinds of errors of a transaction (AMQP 1.0 part 4, section 4.5.8).
-///
-/// # Encoding
-/// A symbol that is one of 3.
 // amqp: encoding = "restricted", source = "Symbol", values = ["amqp:transaction:unknown-id", "amqp:transaction:rollback", "amqp:transaction:timeout"]
 #[derive(Debug, Clone, Copy, PartialEq, Eq)]
 pub enum TransactionCondition {

@@ -9,8 +9,8 @@ use serde_amqp::primitives::{OrderedMap, Symbol};
 ///
 /// # Encoding
 /// A list of the fields, described by the code 0x13.
-// amqp: encoding = "list", code = 0x13, name = "amqp:flow:list", rename_all = "kebab-case"
-#[derive(Debug, PartialEq, Drop)]
+// amqp: encoding = "list", code = 0x13, name = "amqp:flow:list", rename_all = "kebab-case", new
+#[derive(Debug, Clone, PartialEq, Drop)]
 pub struct Flow {
     /// The number of the next transfer that the sender expects.
     pub next_incoming_id: Option<u32>,

@@ -10,7 +10,6 @@
 mod conditions;
 mod connection;
 mod coordinator;
-mod disposition;
 mod endings;
 mod endpoint_conditions;
 mod flow;
@@ -19,7 +18,6 @@ mod link;
 mod modes;
 mod performative;
 mod sasl;
-mod sasl_exchange;
 mod sasl_frame;
 mod sasl_outcome;
 mod session;
@@ -41,7 +39,6 @@ pub use amqp_transport::{
 pub use conditions::{AmqpCondition, ConnectionCondition};
 pub use connection::Open;
 pub use coordinator::{AnyTarget, Coordinator, TxnCapability};
-pub use disposition::Disposition;
 pub use endings::{Close, Detach, End};
 pub use endpoint_conditions::{LinkCondition, SessionCondition, TransactionCondition};
 pub use flow::Flow;
@@ -51,12 +48,11 @@ pub use lifetime::{
 pub use link::Attach;
 pub use modes::{ReceiverSettleMode, Role, SenderSettleMode};
 pub use performative::Performative;
-pub use sasl::{SaslInit, SaslMechanisms};
-pub use sasl_exchange::{SaslChallenge, SaslResponse};
+pub use sasl::{SaslChallenge, SaslInit, SaslMechanisms, SaslResponse};
 pub use sasl_frame::SaslFrame;
 pub use sasl_outcome::{SaslCode, SaslOutcome};
 pub use session::Begin;
 pub use source::Source;
 pub use target::Target;
 pub use terminus::{DistributionMode, TerminusDurability, TerminusExpiryPolicy};
-pub use transfer::Transfer;
+pub use transfer::{Disposition, Transfer};

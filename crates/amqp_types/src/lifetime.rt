@@ -7,7 +7,7 @@ mod derived;
 /// # Encoding
 /// A list of the fields, described by the code 0x2b.
 // amqp: encoding = "list", code = 0x2b, name = "amqp:delete-on-close:list"
-#[derive(Debug, PartialEq, Drop)]
+#[derive(Debug, Clone, Default, PartialEq, Drop)]
 pub struct DeleteOnClose;
 
 /// When it has no links (AMQP 1.0 part 3, section 3.5.11).
@@ -15,7 +15,7 @@ pub struct DeleteOnClose;
 /// # Encoding
 /// A list of the fields, described by the code 0x2c.
 // amqp: encoding = "list", code = 0x2c, name = "amqp:delete-on-no-links:list"
-#[derive(Debug, PartialEq, Drop)]
+#[derive(Debug, Clone, Default, PartialEq, Drop)]
 pub struct DeleteOnNoLinks;
 
 /// When it has no messages (AMQP 1.0 part 3, section 3.5.12).
@@ -23,7 +23,7 @@ pub struct DeleteOnNoLinks;
 /// # Encoding
 /// A list of the fields, described by the code 0x2d.
 // amqp: encoding = "list", code = 0x2d, name = "amqp:delete-on-no-messages:list"
-#[derive(Debug, PartialEq, Drop)]
+#[derive(Debug, Clone, Default, PartialEq, Drop)]
 pub struct DeleteOnNoMessages;
 
 /// When it has neither (AMQP 1.0 part 3, section 3.5.13).
@@ -31,16 +31,13 @@ pub struct DeleteOnNoMessages;
 /// # Encoding
 /// A list of the fields, described by the code 0x2e.
 // amqp: encoding = "list", code = 0x2e, name = "amqp:delete-on-no-links-or-messages:list"
-#[derive(Debug, PartialEq, Drop)]
+#[derive(Debug, Clone, Default, PartialEq, Drop)]
 pub struct DeleteOnNoLinksOrMessages;
 
 /// When a created node is deleted: the node property `lifetime-policy` (AMQP 1.0 part 3, section
 /// 3.5.9).
-///
-/// # Encoding
-/// The composite of the variant.
 // amqp: encoding = "described"
-#[derive(Debug, PartialEq, Drop)]
+#[derive(Debug, Clone, PartialEq, Drop)]
 pub enum LifetimePolicy {
     /// When its link is closed.
     DeleteOnClose(DeleteOnClose),

@@ -13,7 +13,7 @@ use serde_amqp::primitives::{ByteBuf, Multiple, OrderedMap, Symbol};
 ///
 /// # Encoding
 /// A list of the fields, described by the code 0x12.
-// amqp: encoding = "list", code = 0x12, name = "amqp:attach:list", rename_all = "kebab-case"
+// amqp: encoding = "list", code = 0x12, name = "amqp:attach:list", rename_all = "kebab-case", new
 #[derive(Debug, PartialEq, Drop)]
 pub struct Attach {
     /// The name of the link.
@@ -57,19 +57,13 @@ impl Attach {
     pub fn snd_settle_mode_or_default(&self) -> SenderSettleMode
         ensures { result ≡ value_or sender_settle_mode.Mixed self.now.snd_settle_mode }
     {
-        match self.snd_settle_mode {
-            Some(value) => value,
-            None => SenderSettleMode::Mixed,
-        }
+        self.snd_settle_mode.unwrap_or(SenderSettleMode::Mixed)
     }
 
     /// Returns `rcv_settle_mode`, or `ReceiverSettleMode::First` if it is absent.
     pub fn rcv_settle_mode_or_default(&self) -> ReceiverSettleMode
         ensures { result ≡ value_or receiver_settle_mode.First self.now.rcv_settle_mode }
     {
-        match self.rcv_settle_mode {
-            Some(value) => value,
-            None => ReceiverSettleMode::First,
-        }
+        self.rcv_settle_mode.unwrap_or(ReceiverSettleMode::First)
     }
 }

@@ -3,9 +3,6 @@
 mod derived;
 
 /// An end of a link (AMQP 1.0 part 2, section 2.8.1).
-///
-/// # Encoding
-/// A boolean that is one of 2.
 // amqp: encoding = "restricted", source = "bool", values = [false, true]
 #[derive(Debug, Clone, Copy, PartialEq, Eq)]
 pub enum Role {
@@ -16,9 +13,6 @@ pub enum Role {
 }
 
 /// How the sending end of a link settles deliveries (AMQP 1.0 part 2, section 2.8.2).
-///
-/// # Encoding
-/// A ubyte that is one of 3.
 // amqp: encoding = "restricted", source = "u8", values = [0, 1, 2]
 #[derive(Debug, Clone, Copy, PartialEq, Eq)]
 pub enum SenderSettleMode {
@@ -31,9 +25,6 @@ pub enum SenderSettleMode {
 }
 
 /// How the receiving end of a link settles deliveries (AMQP 1.0 part 2, section 2.8.3).
-///
-/// # Encoding
-/// A ubyte that is one of 2.
 // amqp: encoding = "restricted", source = "u8", values = [0, 1]
 #[derive(Debug, Clone, Copy, PartialEq, Eq)]
 pub enum ReceiverSettleMode {

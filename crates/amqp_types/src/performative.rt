@@ -3,18 +3,14 @@
 mod derived;
 
 use crate::connection::Open;
-use crate::disposition::Disposition;
 use crate::endings::{Close, Detach, End};
 use crate::flow::Flow;
 use crate::link::Attach;
 use crate::session::Begin;
-use crate::transfer::Transfer;
+use crate::transfer::{Disposition, Transfer};
 use amqp_messaging::Unknown;
 
 /// What a frame of AMQP says (AMQP 1.0 part 2, section 2.7).
-///
-/// # Encoding
-/// The composite of the variant.
 // amqp: encoding = "described", others
 #[derive(Debug, PartialEq, Drop)]
 pub enum Performative {

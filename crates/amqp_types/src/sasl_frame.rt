@@ -2,15 +2,11 @@
 
 mod derived;
 
-use crate::sasl::{SaslInit, SaslMechanisms};
-use crate::sasl_exchange::{SaslChallenge, SaslResponse};
+use crate::sasl::{SaslChallenge, SaslInit, SaslMechanisms, SaslResponse};
 use crate::sasl_outcome::SaslOutcome;
 use amqp_messaging::Unknown;
 
 /// What a frame of SASL says (AMQP 1.0 part 5, section 5.3.3).
-///
-/// # Encoding
-/// The composite of the variant.
 // amqp: encoding = "described", others
 #[derive(Debug, PartialEq, Drop)]
 pub enum SaslFrame {

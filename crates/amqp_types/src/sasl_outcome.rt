@@ -8,8 +8,8 @@ use serde_amqp::primitives::ByteBuf;
 ///
 /// # Encoding
 /// A list of the fields, described by the code 0x44.
-// amqp: encoding = "list", code = 0x44, name = "amqp:sasl-outcome:list", rename_all = "kebab-case"
-#[derive(Debug, PartialEq, Drop)]
+// amqp: encoding = "list", code = 0x44, name = "amqp:sasl-outcome:list", rename_all = "kebab-case", new
+#[derive(Debug, Clone, PartialEq, Drop)]
 pub struct SaslOutcome {
     /// Whether the client is authenticated.
     pub code: SaslCode,
@@ -18,9 +18,6 @@ pub struct SaslOutcome {
 }
 
 /// Whether a client is authenticated (AMQP 1.0 part 5, section 5.3.3.6).
-///
-/// # Encoding
-/// A ubyte that is one of 5.
 // amqp: encoding = "restricted", source = "u8", values = [0, 1, 2, 3, 4]
 #[derive(Debug, Clone, Copy, PartialEq, Eq)]
 pub enum SaslCode {

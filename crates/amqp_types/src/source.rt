@@ -12,7 +12,7 @@ use serde_amqp::primitives::{Multiple, OrderedMap, Symbol};
 /// # Encoding
 /// A list of the fields, described by the code 0x28.
 // amqp: encoding = "list", code = 0x28, name = "amqp:source:list", rename_all = "kebab-case"
-#[derive(Debug, PartialEq, Drop)]
+#[derive(Debug, Default, PartialEq, Drop)]
 pub struct Source {
     /// The node.
     pub address: Option<Address>,
@@ -50,19 +50,14 @@ impl Source {
     pub fn durable_or_default(&self) -> TerminusDurability
         ensures { result ≡ value_or terminus_durability.None self.now.durable }
     {
-        match self.durable {
-            Some(value) => value,
-            None => TerminusDurability::None,
-        }
+        self.durable.unwrap_or(TerminusDurability::None)
     }
 
     /// Returns `expiry_policy`, or `TerminusExpiryPolicy::SessionEnd` if it is absent.
     pub fn expiry_policy_or_default(&self) -> TerminusExpiryPolicy
         ensures { result ≡ value_or terminus_expiry_policy.SessionEnd self.now.expiry_policy }
     {
-        match self.expiry_policy {
-            Some(value) => value,
-            None => TerminusExpiryPolicy::SessionEnd,
-        }
+        self.expiry_policy
+            .unwrap_or(TerminusExpiryPolicy::SessionEnd)
     }
 }

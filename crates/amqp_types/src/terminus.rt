@@ -3,9 +3,6 @@
 mod derived;
 
 /// Which state of a terminus survives a failure (AMQP 1.0 part 3, section 3.5.5).
-///
-/// # Encoding
-/// A uint that is one of 3.
 // amqp: encoding = "restricted", source = "u32", values = [0, 1, 2]
 #[derive(Debug, Clone, Copy, PartialEq, Eq)]
 pub enum TerminusDurability {
@@ -18,9 +15,6 @@ pub enum TerminusDurability {
 }
 
 /// When the timeout of a terminus begins (AMQP 1.0 part 3, section 3.5.6).
-///
-/// # Encoding
-/// A symbol that is one of 4.
 // amqp: encoding = "restricted", source = "Symbol", values = ["link-detach", "session-end", "connection-close", "never"]
 #[derive(Debug, Clone, Copy, PartialEq, Eq)]
 pub enum TerminusExpiryPolicy {
@@ -35,9 +29,6 @@ pub enum TerminusExpiryPolicy {
 }
 
 /// What a source does with a message that it transfers (AMQP 1.0 part 3, section 3.5.7).
-///
-/// # Encoding
-/// A symbol that is one of 2.
 // amqp: encoding = "restricted", source = "Symbol", values = ["move", "copy"]
 #[derive(Debug, Clone, Copy, PartialEq, Eq)]
 pub enum DistributionMode {

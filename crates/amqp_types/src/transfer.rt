@@ -1,8 +1,8 @@
-//! The frame that carries a message.
+//! The frames that carry a message and tell the state of deliveries.
 
 mod derived;
 
-use crate::modes::ReceiverSettleMode;
+use crate::modes::{ReceiverSettleMode, Role};
 use amqp_messaging::DeliveryState;
 use serde_amqp::primitives::ByteBuf;
 
@@ -10,8 +10,8 @@ use serde_amqp::primitives::ByteBuf;
 ///
 /// # Encoding
 /// A list of the fields, described by the code 0x14.
-// amqp: encoding = "list", code = 0x14, name = "amqp:transfer:list", rename_all = "kebab-case"
-#[derive(Debug, PartialEq, Drop)]
+// amqp: encoding = "list", code = 0x14, name = "amqp:transfer:list", rename_all = "kebab-case", new
+#[derive(Debug, Clone, PartialEq, Drop)]
 pub struct Transfer {
     /// The link.
     pub handle: u32,
@@ -36,6 +36,29 @@ pub struct Transfer {
     /// Whether the sender takes the delivery back.
     // amqp: default = false
     pub aborted: Option<bool>,
+    /// Whether the answer may wait for others.
+    // amqp: default = false
+    pub batchable: Option<bool>,
+}
+
+/// Tells the state of a range of deliveries (AMQP 1.0 part 2, section 2.7.6).
+///
+/// # Encoding
+/// A list of the fields, described by the code 0x15.
+// amqp: encoding = "list", code = 0x15, name = "amqp:disposition:list", rename_all = "kebab-case", new
+#[derive(Debug, Clone, PartialEq, Drop)]
+pub struct Disposition {
+    /// Which end the sender of the frame is.
+    pub role: Role,
+    /// The first delivery.
+    pub first: u32,
+    /// The last delivery. Without it, there is one.
+    pub last: Option<u32>,
+    /// Whether the sender has settled the deliveries.
+    // amqp: default = false
+    pub settled: Option<bool>,
+    /// The state of the deliveries at the sender.
+    pub state: Option<DeliveryState>,
     /// Whether the answer may wait for others.
     // amqp: default = false
     pub batchable: Option<bool>,

@@ -1,5 +1,8 @@
 //! tools/derive wrote this file from annotations.rt: it is not edited by hand.
 
+ghost use Rattle.std.specs.Prelude.{◌≡◌, codes};
+ghost use Rattle.serde_amqp.specs.Derive.{◌▸◌, by_parts, after_code};
+
 use super::{
     AnnotationKey, ApplicationProperties, DeliveryAnnotations, Footer, MessageAnnotations,
     OrderedMap, Value,
@@ -9,7 +12,6 @@ use serde_amqp::derive::{
     SerializeCompounds, Serializer, Shape, ShapeTree, Source, composite_returns, read_shaped,
 };
 
-/// What a [`DeliveryAnnotations`] is read from.
 type DeliveryAnnotationsShape = Of<OrderedMap<AnnotationKey, Value>>;
 
 impl Record for DeliveryAnnotations {
@@ -23,9 +25,6 @@ impl Record for DeliveryAnnotations {
 }
 
 impl Composite for DeliveryAnnotations {
-    ghost use Rattle.std.specs.Prelude.{codes};
-    ghost use Rattle.serde_amqp.specs.Derive.{by_parts};
-
     ghost descriptor_code = { 0x71 };
 
     ghost descriptor_name = { codes "amqp:delivery-annotations:map" };
@@ -47,8 +46,6 @@ impl Composite for DeliveryAnnotations {
 }
 
 impl Serialize for DeliveryAnnotations {
-    ghost use Rattle.serde_amqp.specs.Derive.{after_code};
-
     ghost tree = { after_code 0x71 ⟦<DeliveryAnnotationsShape as ShapeTree>⟧.tree
         ⟦<DeliveryAnnotations as Record>⟧.parts };
 
@@ -63,7 +60,6 @@ impl RoundTripComposite for DeliveryAnnotations {
     }
 }
 
-/// What a [`MessageAnnotations`] is read from.
 type MessageAnnotationsShape = Of<OrderedMap<AnnotationKey, Value>>;
 
 impl Record for MessageAnnotations {
@@ -77,9 +73,6 @@ impl Record for MessageAnnotations {
 }
 
 impl Composite for MessageAnnotations {
-    ghost use Rattle.std.specs.Prelude.{codes};
-    ghost use Rattle.serde_amqp.specs.Derive.{by_parts};
-
     ghost descriptor_code = { 0x72 };
 
     ghost descriptor_name = { codes "amqp:message-annotations:map" };
@@ -101,8 +94,6 @@ impl Composite for MessageAnnotations {
 }
 
 impl Serialize for MessageAnnotations {
-    ghost use Rattle.serde_amqp.specs.Derive.{after_code};
-
     ghost tree = { after_code 0x72 ⟦<MessageAnnotationsShape as ShapeTree>⟧.tree
         ⟦<MessageAnnotations as Record>⟧.parts };
 
@@ -117,7 +108,6 @@ impl RoundTripComposite for MessageAnnotations {
     }
 }
 
-/// What an [`ApplicationProperties`] is read from.
 type ApplicationPropertiesShape = Of<OrderedMap<String, Value>>;
 
 impl Record for ApplicationProperties {
@@ -131,9 +121,6 @@ impl Record for ApplicationProperties {
 }
 
 impl Composite for ApplicationProperties {
-    ghost use Rattle.std.specs.Prelude.{codes};
-    ghost use Rattle.serde_amqp.specs.Derive.{by_parts};
-
     ghost descriptor_code = { 0x74 };
 
     ghost descriptor_name = { codes "amqp:application-properties:map" };
@@ -155,8 +142,6 @@ impl Composite for ApplicationProperties {
 }
 
 impl Serialize for ApplicationProperties {
-    ghost use Rattle.serde_amqp.specs.Derive.{after_code};
-
     ghost tree = { after_code 0x74 ⟦<ApplicationPropertiesShape as ShapeTree>⟧.tree
         ⟦<ApplicationProperties as Record>⟧.parts };
 
@@ -171,7 +156,6 @@ impl RoundTripComposite for ApplicationProperties {
     }
 }
 
-/// What a [`Footer`] is read from.
 type FooterShape = Of<OrderedMap<AnnotationKey, Value>>;
 
 impl Record for Footer {
@@ -185,9 +169,6 @@ impl Record for Footer {
 }
 
 impl Composite for Footer {
-    ghost use Rattle.std.specs.Prelude.{codes};
-    ghost use Rattle.serde_amqp.specs.Derive.{by_parts};
-
     ghost descriptor_code = { 0x78 };
 
     ghost descriptor_name = { codes "amqp:footer:map" };
@@ -205,8 +186,6 @@ impl Composite for Footer {
 }
 
 impl Serialize for Footer {
-    ghost use Rattle.serde_amqp.specs.Derive.{after_code};
-
     ghost tree = { after_code 0x78 ⟦<FooterShape as ShapeTree>⟧.tree ⟦<Footer as Record>⟧.parts };
 
     fn serialize<S: Serializer>(&self, serializer: &mut S) -> Result<S::Ok, S::Error> {

@@ -1,12 +1,14 @@
 //! tools/derive wrote this file from bodies.rt: it is not edited by hand.
 
+ghost use Rattle.std.specs.Prelude.{◌≡◌, codes};
+ghost use Rattle.serde_amqp.specs.Derive.{◌▸◌, by_parts, after_code};
+
 use super::{AmqpSequence, AmqpValue, ByteBuf, Data, Value};
 use serde_amqp::derive::{
     Composite, Fault, Global, Of, PhantomData, Record, RoundTripComposite, Serialize,
     SerializeCompounds, Serializer, Shape, ShapeTree, Source, composite_returns, read_shaped,
 };
 
-/// What a [`Data`] is read from.
 type DataShape = Of<ByteBuf>;
 
 impl Record for Data {
@@ -20,9 +22,6 @@ impl Record for Data {
 }
 
 impl Composite for Data {
-    ghost use Rattle.std.specs.Prelude.{codes};
-    ghost use Rattle.serde_amqp.specs.Derive.{by_parts};
-
     ghost descriptor_code = { 0x75 };
 
     ghost descriptor_name = { codes "amqp:data:binary" };
@@ -40,8 +39,6 @@ impl Composite for Data {
 }
 
 impl Serialize for Data {
-    ghost use Rattle.serde_amqp.specs.Derive.{after_code};
-
     ghost tree = { after_code 0x75 ⟦<DataShape as ShapeTree>⟧.tree ⟦<Data as Record>⟧.parts };
 
     fn serialize<S: Serializer>(&self, serializer: &mut S) -> Result<S::Ok, S::Error> {
@@ -55,7 +52,6 @@ impl RoundTripComposite for Data {
     }
 }
 
-/// What an [`AmqpSequence`] is read from.
 type AmqpSequenceShape = Of<Vec<Value>>;
 
 impl Record for AmqpSequence {
@@ -69,9 +65,6 @@ impl Record for AmqpSequence {
 }
 
 impl Composite for AmqpSequence {
-    ghost use Rattle.std.specs.Prelude.{codes};
-    ghost use Rattle.serde_amqp.specs.Derive.{by_parts};
-
     ghost descriptor_code = { 0x76 };
 
     ghost descriptor_name = { codes "amqp:amqp-sequence:list" };
@@ -89,8 +82,6 @@ impl Composite for AmqpSequence {
 }
 
 impl Serialize for AmqpSequence {
-    ghost use Rattle.serde_amqp.specs.Derive.{after_code};
-
     ghost tree = { after_code 0x76 ⟦<AmqpSequenceShape as ShapeTree>⟧.tree
         ⟦<AmqpSequence as Record>⟧.parts };
 
@@ -105,7 +96,6 @@ impl RoundTripComposite for AmqpSequence {
     }
 }
 
-/// What an [`AmqpValue`] is read from.
 type AmqpValueShape = Of<Value>;
 
 impl Record for AmqpValue {
@@ -119,9 +109,6 @@ impl Record for AmqpValue {
 }
 
 impl Composite for AmqpValue {
-    ghost use Rattle.std.specs.Prelude.{codes};
-    ghost use Rattle.serde_amqp.specs.Derive.{by_parts};
-
     ghost descriptor_code = { 0x77 };
 
     ghost descriptor_name = { codes "amqp:amqp-value:*" };
@@ -139,8 +126,6 @@ impl Composite for AmqpValue {
 }
 
 impl Serialize for AmqpValue {
-    ghost use Rattle.serde_amqp.specs.Derive.{after_code};
-
     ghost tree = { after_code 0x77 ⟦<AmqpValueShape as ShapeTree>⟧.tree
         ⟦<AmqpValue as Record>⟧.parts };
 

@@ -1,5 +1,8 @@
 //! tools/derive wrote this file from delivery.rt: it is not edited by hand.
 
+ghost use Rattle.std.specs.Prelude.{◌≡◌, None, codes};
+ghost use Rattle.serde_amqp.specs.Derive.{◌▸◌, by_parts, after_code};
+
 use super::{
     Accepted, AmqpError, Modified, OrderedMap, Received, Rejected, Released, Symbol, Value,
 };
@@ -9,14 +12,11 @@ use serde_amqp::derive::{
     named, read_shaped,
 };
 
-/// What a [`Received`] is read from.
 type ReceivedFields = Required<u32, Required<u64, ()>>;
 
 type ReceivedShape = ListOf<ReceivedFields>;
 
 impl Record for Received {
-    ghost use Rattle.serde_amqp.specs.Derive.{◌▸◌};
-
     type Values = <ReceivedShape as Shape>::Value;
 
     ghost parts = { λ x. x.section_number ▸ x.section_offset ▸ tt };
@@ -27,9 +27,6 @@ impl Record for Received {
 }
 
 impl Composite for Received {
-    ghost use Rattle.std.specs.Prelude.{codes};
-    ghost use Rattle.serde_amqp.specs.Derive.{by_parts};
-
     ghost descriptor_code = { 0x23 };
 
     ghost descriptor_name = { codes "amqp:received:list" };
@@ -48,8 +45,6 @@ impl Composite for Received {
 }
 
 impl Serialize for Received {
-    ghost use Rattle.serde_amqp.specs.Derive.{after_code};
-
     ghost tree = { after_code 0x23 ⟦<ReceivedShape as ShapeTree>⟧.tree
         ⟦<Received as Record>⟧.parts };
 
@@ -69,7 +64,18 @@ impl RoundTripComposite for Received {
     }
 }
 
-/// What an [`Accepted`] is read from.
+impl Received {
+    /// Returns a value with these fields.
+    pub fn new(section_number: u32, section_offset: u64) -> Received
+        ensures { ⟦<Received as Record>⟧.parts result ≡ section_number ▸ section_offset ▸ tt }
+    {
+        Received {
+            section_number,
+            section_offset,
+        }
+    }
+}
+
 type AcceptedShape = ListOf<()>;
 
 impl Record for Accepted {
@@ -83,9 +89,6 @@ impl Record for Accepted {
 }
 
 impl Composite for Accepted {
-    ghost use Rattle.std.specs.Prelude.{codes};
-    ghost use Rattle.serde_amqp.specs.Derive.{by_parts};
-
     ghost descriptor_code = { 0x24 };
 
     ghost descriptor_name = { codes "amqp:accepted:list" };
@@ -103,8 +106,6 @@ impl Composite for Accepted {
 }
 
 impl Serialize for Accepted {
-    ghost use Rattle.serde_amqp.specs.Derive.{after_code};
-
     ghost tree = { after_code 0x24 ⟦<AcceptedShape as ShapeTree>⟧.tree
         ⟦<Accepted as Record>⟧.parts };
 
@@ -119,14 +120,11 @@ impl RoundTripComposite for Accepted {
     }
 }
 
-/// What a [`Rejected`] is read from.
 type RejectedFields = Optional<AmqpError, ()>;
 
 type RejectedShape = ListOf<RejectedFields>;
 
 impl Record for Rejected {
-    ghost use Rattle.serde_amqp.specs.Derive.{◌▸◌};
-
     type Values = <RejectedShape as Shape>::Value;
 
     ghost parts = { λ x. x.error ▸ tt };
@@ -137,9 +135,6 @@ impl Record for Rejected {
 }
 
 impl Composite for Rejected {
-    ghost use Rattle.std.specs.Prelude.{codes};
-    ghost use Rattle.serde_amqp.specs.Derive.{by_parts};
-
     ghost descriptor_code = { 0x25 };
 
     ghost descriptor_name = { codes "amqp:rejected:list" };
@@ -158,8 +153,6 @@ impl Composite for Rejected {
 }
 
 impl Serialize for Rejected {
-    ghost use Rattle.serde_amqp.specs.Derive.{after_code};
-
     ghost tree = { after_code 0x25 ⟦<RejectedShape as ShapeTree>⟧.tree
         ⟦<Rejected as Record>⟧.parts };
 
@@ -174,7 +167,6 @@ impl RoundTripComposite for Rejected {
     }
 }
 
-/// What a [`Released`] is read from.
 type ReleasedShape = ListOf<()>;
 
 impl Record for Released {
@@ -188,9 +180,6 @@ impl Record for Released {
 }
 
 impl Composite for Released {
-    ghost use Rattle.std.specs.Prelude.{codes};
-    ghost use Rattle.serde_amqp.specs.Derive.{by_parts};
-
     ghost descriptor_code = { 0x26 };
 
     ghost descriptor_name = { codes "amqp:released:list" };
@@ -208,8 +197,6 @@ impl Composite for Released {
 }
 
 impl Serialize for Released {
-    ghost use Rattle.serde_amqp.specs.Derive.{after_code};
-
     ghost tree = { after_code 0x26 ⟦<ReleasedShape as ShapeTree>⟧.tree
         ⟦<Released as Record>⟧.parts };
 
@@ -224,14 +211,11 @@ impl RoundTripComposite for Released {
     }
 }
 
-/// What a [`Modified`] is read from.
 type ModifiedFields = Optional<bool, Optional<bool, Optional<OrderedMap<Symbol, Value>, ()>>>;
 
 type ModifiedShape = ListOf<ModifiedFields>;
 
 impl Record for Modified {
-    ghost use Rattle.serde_amqp.specs.Derive.{◌▸◌};
-
     type Values = <ModifiedShape as Shape>::Value;
 
     ghost parts = { λ x. x.delivery_failed ▸ x.undeliverable_here ▸ x.message_annotations ▸ tt };
@@ -242,9 +226,6 @@ impl Record for Modified {
 }
 
 impl Composite for Modified {
-    ghost use Rattle.std.specs.Prelude.{codes};
-    ghost use Rattle.serde_amqp.specs.Derive.{by_parts};
-
     ghost descriptor_code = { 0x27 };
 
     ghost descriptor_name = { codes "amqp:modified:list" };
@@ -263,8 +244,6 @@ impl Composite for Modified {
 }
 
 impl Serialize for Modified {
-    ghost use Rattle.serde_amqp.specs.Derive.{after_code};
-
     ghost tree = { after_code 0x27 ⟦<ModifiedShape as ShapeTree>⟧.tree
         ⟦<Modified as Record>⟧.parts };
 

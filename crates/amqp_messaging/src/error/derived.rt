@@ -1,5 +1,8 @@
 //! tools/derive wrote this file from error.rt: it is not edited by hand.
 
+ghost use Rattle.std.specs.Prelude.{◌≡◌, None, codes};
+ghost use Rattle.serde_amqp.specs.Derive.{◌▸◌, by_parts, after_code};
+
 use super::{AmqpError, OrderedMap, Symbol, Value};
 use serde_amqp::derive::{
     Composite, Fault, Global, ListOf, Optional, Record, Required, RoundTripComposite, Serialize,
@@ -7,14 +10,11 @@ use serde_amqp::derive::{
     named, read_shaped,
 };
 
-/// What an [`AmqpError`] is read from.
 type AmqpErrorFields = Required<Symbol, Optional<String, Optional<OrderedMap<Symbol, Value>, ()>>>;
 
 type AmqpErrorShape = ListOf<AmqpErrorFields>;
 
 impl Record for AmqpError {
-    ghost use Rattle.serde_amqp.specs.Derive.{◌▸◌};
-
     type Values = <AmqpErrorShape as Shape>::Value;
 
     ghost parts = { λ x. x.condition ▸ x.description ▸ x.info ▸ tt };
@@ -25,9 +25,6 @@ impl Record for AmqpError {
 }
 
 impl Composite for AmqpError {
-    ghost use Rattle.std.specs.Prelude.{codes};
-    ghost use Rattle.serde_amqp.specs.Derive.{by_parts};
-
     ghost descriptor_code = { 0x1d };
 
     ghost descriptor_name = { codes "amqp:error:list" };
@@ -46,8 +43,6 @@ impl Composite for AmqpError {
 }
 
 impl Serialize for AmqpError {
-    ghost use Rattle.serde_amqp.specs.Derive.{after_code};
-
     ghost tree = { after_code 0x1d ⟦<AmqpErrorShape as ShapeTree>⟧.tree
         ⟦<AmqpError as Record>⟧.parts };
 
@@ -65,5 +60,18 @@ impl Serialize for AmqpError {
 impl RoundTripComposite for AmqpError {
     fn composite_law() {
         composite_returns::<AmqpError, AmqpErrorShape>();
+    }
+}
+
+impl AmqpError {
+    /// Returns a value with these fields. The others are `None`.
+    pub fn new(condition: Symbol) -> AmqpError
+        ensures { ⟦<AmqpError as Record>⟧.parts result ≡ condition ▸ None ▸ None ▸ tt }
+    {
+        AmqpError {
+            condition,
+            description: None,
+            info: None,
+        }
     }
 }

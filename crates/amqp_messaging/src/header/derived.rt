@@ -1,5 +1,8 @@
 //! tools/derive wrote this file from header.rt: it is not edited by hand.
 
+ghost use Rattle.std.specs.Prelude.{◌≡◌, None, false, codes};
+ghost use Rattle.serde_amqp.specs.Derive.{value_or, ◌▸◌, by_parts, after_code};
+
 use super::Header;
 use serde_amqp::derive::{
     Composite, Fault, Global, ListOf, Optional, Record, RoundTripComposite, Serialize,
@@ -7,14 +10,11 @@ use serde_amqp::derive::{
     named, read_shaped,
 };
 
-/// What a [`Header`] is read from.
 type HeaderFields = Optional<bool, Optional<u8, Optional<u32, Optional<bool, Optional<u32, ()>>>>>;
 
 type HeaderShape = ListOf<HeaderFields>;
 
 impl Record for Header {
-    ghost use Rattle.serde_amqp.specs.Derive.{◌▸◌};
-
     type Values = <HeaderShape as Shape>::Value;
 
     ghost parts = { λ x. x.durable ▸ x.priority ▸ x.ttl ▸ x.first_acquirer ▸ x.delivery_count ▸
@@ -26,9 +26,6 @@ impl Record for Header {
 }
 
 impl Composite for Header {
-    ghost use Rattle.std.specs.Prelude.{codes};
-    ghost use Rattle.serde_amqp.specs.Derive.{by_parts};
-
     ghost descriptor_code = { 0x70 };
 
     ghost descriptor_name = { codes "amqp:header:list" };
@@ -49,8 +46,6 @@ impl Composite for Header {
 }
 
 impl Serialize for Header {
-    ghost use Rattle.serde_amqp.specs.Derive.{after_code};
-
     ghost tree = { after_code 0x70 ⟦<HeaderShape as ShapeTree>⟧.tree ⟦<Header as Record>⟧.parts };
 
     fn serialize<S: Serializer>(&self, serializer: &mut S) -> Result<S::Ok, S::Error> {
@@ -71,46 +66,31 @@ impl RoundTripComposite for Header {
 }
 
 impl Header {
-    ghost use Rattle.std.specs.Prelude.{◌≡◌, false};
-    ghost use Rattle.serde_amqp.specs.Derive.{value_or};
-
     /// Returns `durable`, or `false` if it is absent.
     pub fn durable_or_default(&self) -> bool
         ensures { result ≡ value_or false self.now.durable }
     {
-        match self.durable {
-            Some(value) => value,
-            None => false,
-        }
+        self.durable.unwrap_or(false)
     }
 
     /// Returns `priority`, or `4` if it is absent.
     pub fn priority_or_default(&self) -> u8
         ensures { result ≡ value_or 4 self.now.priority }
     {
-        match self.priority {
-            Some(value) => value,
-            None => 4,
-        }
+        self.priority.unwrap_or(4)
     }
 
     /// Returns `first_acquirer`, or `false` if it is absent.
     pub fn first_acquirer_or_default(&self) -> bool
         ensures { result ≡ value_or false self.now.first_acquirer }
     {
-        match self.first_acquirer {
-            Some(value) => value,
-            None => false,
-        }
+        self.first_acquirer.unwrap_or(false)
     }
 
     /// Returns `delivery_count`, or `0` if it is absent.
     pub fn delivery_count_or_default(&self) -> u32
         ensures { result ≡ value_or 0 self.now.delivery_count }
     {
-        match self.delivery_count {
-            Some(value) => value,
-            None => 0,
-        }
+        self.delivery_count.unwrap_or(0)
     }
 }

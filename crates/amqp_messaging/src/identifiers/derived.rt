@@ -1,14 +1,15 @@
 //! tools/derive wrote this file from identifiers.rt: it is not edited by hand.
 
+ghost use Rattle.std.specs.Prelude.{Some, string_bytes};
+ghost use Rattle.serde_amqp.specs.Derive.{symbol_text, byte_buf_bytes, uuid_bytes, Scalar, scalar};
+ghost use Rattle.serde_amqp.specs.Derive.{ulong, uuid, binary, string, symbol, by_scalar};
+
 use super::{Address, AnnotationKey, MessageId};
 use serde_amqp::derive::{
     Fault, Global, MapKey, Readable, RoundTripReadable, Serialize, Serializer, Source, Value,
 };
 
 impl Readable for MessageId {
-    ghost use Rattle.std.specs.Prelude.{string_bytes};
-    ghost use Rattle.serde_amqp.specs.Derive.{byte_buf_bytes, uuid_bytes, Scalar, ulong, uuid};
-    ghost use Rattle.serde_amqp.specs.Derive.{binary, string, by_scalar};
     ghost use Rattle.amqp_messaging.specs.declared.identifiers.MessageId.TheVariants as variant;
 
     ghost laws = { by_scalar (λ x. elim x as (λ _. Scalar) [
@@ -34,8 +35,6 @@ impl Readable for MessageId {
 }
 
 impl Serialize for MessageId {
-    ghost use Rattle.std.specs.Prelude.{Some};
-
     ghost tree = { λ x. Some (⟦<MessageId as Readable>⟧.laws.image x) };
 
     fn serialize<S: Serializer>(&self, serializer: &mut S) -> Result<S::Ok, S::Error> {
@@ -53,8 +52,6 @@ impl RoundTripReadable for MessageId {
 }
 
 impl Readable for Address {
-    ghost use Rattle.std.specs.Prelude.{string_bytes};
-    ghost use Rattle.serde_amqp.specs.Derive.{Scalar, string, by_scalar};
     ghost use Rattle.amqp_messaging.specs.declared.identifiers.Address.TheVariants as variant;
 
     ghost laws = { by_scalar (λ x. elim x as (λ _. Scalar) [
@@ -74,8 +71,6 @@ impl Readable for Address {
 }
 
 impl Serialize for Address {
-    ghost use Rattle.std.specs.Prelude.{Some};
-
     ghost tree = { λ x. Some (⟦<Address as Readable>⟧.laws.image x) };
 
     fn serialize<S: Serializer>(&self, serializer: &mut S) -> Result<S::Ok, S::Error> {
@@ -90,8 +85,6 @@ impl RoundTripReadable for Address {
 }
 
 impl Serialize for AnnotationKey {
-    ghost use Rattle.std.specs.Prelude.{Some};
-    ghost use Rattle.serde_amqp.specs.Derive.{symbol_text, Scalar, scalar, ulong, symbol};
     ghost use Rattle.amqp_messaging.specs.declared.identifiers.AnnotationKey.TheVariants as variant;
 
     ghost tree = { λ x. Some (scalar (elim x as (λ _. Scalar) [

@@ -13,7 +13,7 @@ use serde_amqp::extensions::TransparentVec;
 /// # Encoding
 /// That of each section, one after another. A body without sections has no bytes, and is no body of
 /// the standard.
-#[derive(Debug, PartialEq, Drop)]
+#[derive(Debug, Clone, PartialEq, Drop)]
 pub enum Body {
     /// One or more sections of bytes.
     Data(TransparentVec<Data>),

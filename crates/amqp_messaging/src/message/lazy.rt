@@ -26,7 +26,7 @@ use std::alloc::Global;
 /// message was read from (AMQP 1.0 part 3, section 3.2).
 ///
 /// The properties are also in the bare message: a change of them here is not written.
-#[derive(Debug, PartialEq, Drop)]
+#[derive(Debug, Clone, PartialEq, Drop)]
 pub struct LazyMessage<'a> {
     /// How the message is delivered.
     pub header: Option<Header>,

@@ -32,7 +32,7 @@ use std::alloc::Global;
 ///
 /// # Example
 /// A message with a header without fields and the value null is `0053704500537740`.
-#[derive(Debug, PartialEq, Drop)]
+#[derive(Debug, Clone, PartialEq, Drop)]
 pub struct Message {
     /// How the message is delivered.
     pub header: Option<Header>,

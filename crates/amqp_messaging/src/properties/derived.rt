@@ -1,5 +1,8 @@
 //! tools/derive wrote this file from properties.rt: it is not edited by hand.
 
+ghost use Rattle.std.specs.Prelude.{◌≡◌, None, codes};
+ghost use Rattle.serde_amqp.specs.Derive.{◌▸◌, by_parts, after_code};
+
 use super::{Address, ByteBuf, MessageId, Properties, Symbol, Timestamp};
 use serde_amqp::derive::{
     Composite, Fault, Global, ListOf, Optional, Record, RoundTripComposite, Serialize,
@@ -7,7 +10,6 @@ use serde_amqp::derive::{
     named, read_shaped,
 };
 
-/// What a [`Properties`] is read from.
 type PropertiesFields = Optional<MessageId, Optional<ByteBuf, PropertiesFields2>>;
 
 type PropertiesFields2 = Optional<Address, Optional<String, PropertiesFields3>>;
@@ -23,8 +25,6 @@ type PropertiesFields6 = Optional<String, Optional<u32, Optional<String, ()>>>;
 type PropertiesShape = ListOf<PropertiesFields>;
 
 impl Record for Properties {
-    ghost use Rattle.serde_amqp.specs.Derive.{◌▸◌};
-
     type Values = <PropertiesShape as Shape>::Value;
 
     ghost parts = { λ x. x.message_id ▸ x.user_id ▸ x.to ▸ x.subject ▸ x.reply_to ▸ x.correlation_id
@@ -41,9 +41,6 @@ impl Record for Properties {
 }
 
 impl Composite for Properties {
-    ghost use Rattle.std.specs.Prelude.{codes};
-    ghost use Rattle.serde_amqp.specs.Derive.{by_parts};
-
     ghost descriptor_code = { 0x73 };
 
     ghost descriptor_name = { codes "amqp:properties:list" };
@@ -66,8 +63,6 @@ impl Composite for Properties {
 }
 
 impl Serialize for Properties {
-    ghost use Rattle.serde_amqp.specs.Derive.{after_code};
-
     ghost tree = { after_code 0x73 ⟦<PropertiesShape as ShapeTree>⟧.tree
         ⟦<Properties as Record>⟧.parts };
 

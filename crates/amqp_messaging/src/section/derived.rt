@@ -1,5 +1,8 @@
 //! tools/derive wrote this file from section.rt: it is not edited by hand.
 
+ghost use Rattle.serde_amqp.specs.Derive.{by_parts, tree_by_parts, first, second, third, fourth};
+ghost use Rattle.serde_amqp.specs.Derive.{fifth, sixth, seventh, eighth, ninth, rest9};
+
 use super::{
     AmqpSequence, AmqpValue, ApplicationProperties, Data, DeliveryAnnotations, Footer, Header,
     MessageAnnotations, Properties, Section, Unknown,
@@ -9,7 +12,6 @@ use serde_amqp::derive::{
     Serializer, Shape, ShapeTree, Source, parts_return, place, read_shaped,
 };
 
-/// What a [`Section`] is read from.
 type SectionTypes = Either<Header, Either<DeliveryAnnotations, SectionTypes2>>;
 
 type SectionTypes2 = Either<MessageAnnotations, Either<Properties, SectionTypes3>>;
@@ -21,8 +23,6 @@ type SectionTypes4 = Either<AmqpSequence, Either<AmqpValue, Either<Footer, Unkno
 type SectionShape = OneOfTypes<SectionTypes>;
 
 impl Record for Section {
-    ghost use Rattle.serde_amqp.specs.Derive.{first, second, third, fourth, fifth, sixth, seventh};
-    ghost use Rattle.serde_amqp.specs.Derive.{eighth, ninth, rest9};
     ghost use Rattle.amqp_messaging.specs.declared.section.Section.TheVariants as variant;
 
     type Values = <SectionShape as Shape>::Value;
@@ -57,8 +57,6 @@ impl Record for Section {
 }
 
 impl Readable for Section {
-    ghost use Rattle.serde_amqp.specs.Derive.{by_parts};
-
     ghost laws = { by_parts ⟦<SectionShape as Shape>⟧.laws ⟦<Section as Record>⟧.parts };
 
     #[inline(always)]
@@ -68,8 +66,6 @@ impl Readable for Section {
 }
 
 impl Serialize for Section {
-    ghost use Rattle.serde_amqp.specs.Derive.{tree_by_parts};
-
     ghost tree = { tree_by_parts ⟦<SectionShape as ShapeTree>⟧.tree ⟦<Section as Record>⟧.parts };
 
     fn serialize<S: Serializer>(&self, serializer: &mut S) -> Result<S::Ok, S::Error> {

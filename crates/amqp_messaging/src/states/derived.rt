@@ -1,5 +1,9 @@
 //! tools/derive wrote this file from states.rt: it is not edited by hand.
 
+ghost use Rattle.std.specs.Prelude.{◌≡◌, None, codes};
+ghost use Rattle.serde_amqp.specs.Derive.{◌▸◌, by_parts, tree_by_parts, after_code, first, second};
+ghost use Rattle.serde_amqp.specs.Derive.{third, fourth, fifth, sixth, seventh, rest5, rest7};
+
 use super::{
     Accepted, ByteBuf, Declared, DeliveryState, Modified, Outcome, Received, Rejected, Released,
     TransactionalState, Unknown,
@@ -11,7 +15,6 @@ use serde_amqp::derive::{
     read_shaped,
 };
 
-/// What an [`Outcome`] is read from.
 type OutcomeTypes = Either<Accepted, Either<Rejected, Either<Released, OutcomeTypes2>>>;
 
 type OutcomeTypes2 = Either<Modified, Either<Declared, Unknown>>;
@@ -19,7 +22,6 @@ type OutcomeTypes2 = Either<Modified, Either<Declared, Unknown>>;
 type OutcomeShape = OneOfTypes<OutcomeTypes>;
 
 impl Record for Outcome {
-    ghost use Rattle.serde_amqp.specs.Derive.{first, second, third, fourth, fifth, rest5};
     ghost use Rattle.amqp_messaging.specs.declared.states.Outcome.TheVariants as variant;
 
     type Values = <OutcomeShape as Shape>::Value;
@@ -46,8 +48,6 @@ impl Record for Outcome {
 }
 
 impl Readable for Outcome {
-    ghost use Rattle.serde_amqp.specs.Derive.{by_parts};
-
     ghost laws = { by_parts ⟦<OutcomeShape as Shape>⟧.laws ⟦<Outcome as Record>⟧.parts };
 
     #[inline(always)]
@@ -57,8 +57,6 @@ impl Readable for Outcome {
 }
 
 impl Serialize for Outcome {
-    ghost use Rattle.serde_amqp.specs.Derive.{tree_by_parts};
-
     ghost tree = { tree_by_parts ⟦<OutcomeShape as ShapeTree>⟧.tree ⟦<Outcome as Record>⟧.parts };
 
     fn serialize<S: Serializer>(&self, serializer: &mut S) -> Result<S::Ok, S::Error> {
@@ -79,14 +77,11 @@ impl RoundTripReadable for Outcome {
     }
 }
 
-/// What a [`TransactionalState`] is read from.
 type TransactionalStateFields = Required<ByteBuf, Optional<Outcome, ()>>;
 
 type TransactionalStateShape = ListOf<TransactionalStateFields>;
 
 impl Record for TransactionalState {
-    ghost use Rattle.serde_amqp.specs.Derive.{◌▸◌};
-
     type Values = <TransactionalStateShape as Shape>::Value;
 
     ghost parts = { λ x. x.txn_id ▸ x.outcome ▸ tt };
@@ -97,9 +92,6 @@ impl Record for TransactionalState {
 }
 
 impl Composite for TransactionalState {
-    ghost use Rattle.std.specs.Prelude.{codes};
-    ghost use Rattle.serde_amqp.specs.Derive.{by_parts};
-
     ghost descriptor_code = { 0x34 };
 
     ghost descriptor_name = { codes "amqp:transactional-state:list" };
@@ -122,8 +114,6 @@ impl Composite for TransactionalState {
 }
 
 impl Serialize for TransactionalState {
-    ghost use Rattle.serde_amqp.specs.Derive.{after_code};
-
     ghost tree = { after_code 0x34 ⟦<TransactionalStateShape as ShapeTree>⟧.tree
         ⟦<TransactionalState as Record>⟧.parts };
 
@@ -141,7 +131,18 @@ impl RoundTripComposite for TransactionalState {
     }
 }
 
-/// What a [`DeliveryState`] is read from.
+impl TransactionalState {
+    /// Returns a value with these fields. The others are `None`.
+    pub fn new(txn_id: ByteBuf) -> TransactionalState
+        ensures { ⟦<TransactionalState as Record>⟧.parts result ≡ txn_id ▸ None ▸ tt }
+    {
+        TransactionalState {
+            txn_id,
+            outcome: None,
+        }
+    }
+}
+
 type DeliveryStateTypes = Either<Received, Either<Accepted, DeliveryStateTypes2>>;
 
 type DeliveryStateTypes2 = Either<Rejected, Either<Released, DeliveryStateTypes3>>;
@@ -153,8 +154,6 @@ type DeliveryStateTypes4 = Either<TransactionalState, Unknown>;
 type DeliveryStateShape = OneOfTypes<DeliveryStateTypes>;
 
 impl Record for DeliveryState {
-    ghost use Rattle.serde_amqp.specs.Derive.{first, second, third, fourth, fifth, sixth, seventh};
-    ghost use Rattle.serde_amqp.specs.Derive.{rest7};
     ghost use Rattle.amqp_messaging.specs.declared.states.DeliveryState.TheVariants as variant;
 
     type Values = <DeliveryStateShape as Shape>::Value;
@@ -185,8 +184,6 @@ impl Record for DeliveryState {
 }
 
 impl Readable for DeliveryState {
-    ghost use Rattle.serde_amqp.specs.Derive.{by_parts};
-
     ghost laws = { by_parts ⟦<DeliveryStateShape as Shape>⟧.laws
         ⟦<DeliveryState as Record>⟧.parts };
 
@@ -197,8 +194,6 @@ impl Readable for DeliveryState {
 }
 
 impl Serialize for DeliveryState {
-    ghost use Rattle.serde_amqp.specs.Derive.{tree_by_parts};
-
     ghost tree = { tree_by_parts ⟦<DeliveryStateShape as ShapeTree>⟧.tree
         ⟦<DeliveryState as Record>⟧.parts };
 

@@ -1,5 +1,8 @@
 //! tools/derive wrote this file from transactions.rt: it is not edited by hand.
 
+ghost use Rattle.std.specs.Prelude.{◌≡◌, None, codes};
+ghost use Rattle.serde_amqp.specs.Derive.{◌▸◌, by_parts, after_code};
+
 use super::{ByteBuf, Declare, Declared, Discharge, Value};
 use serde_amqp::derive::{
     Composite, Fault, Global, ListOf, Optional, Record, Required, RoundTripComposite, Serialize,
@@ -7,14 +10,11 @@ use serde_amqp::derive::{
     named, read_shaped,
 };
 
-/// What a [`Declare`] is read from.
 type DeclareFields = Optional<Value, ()>;
 
 type DeclareShape = ListOf<DeclareFields>;
 
 impl Record for Declare {
-    ghost use Rattle.serde_amqp.specs.Derive.{◌▸◌};
-
     type Values = <DeclareShape as Shape>::Value;
 
     ghost parts = { λ x. x.global_id ▸ tt };
@@ -25,9 +25,6 @@ impl Record for Declare {
 }
 
 impl Composite for Declare {
-    ghost use Rattle.std.specs.Prelude.{codes};
-    ghost use Rattle.serde_amqp.specs.Derive.{by_parts};
-
     ghost descriptor_code = { 0x31 };
 
     ghost descriptor_name = { codes "amqp:declare:list" };
@@ -46,8 +43,6 @@ impl Composite for Declare {
 }
 
 impl Serialize for Declare {
-    ghost use Rattle.serde_amqp.specs.Derive.{after_code};
-
     ghost tree = { after_code 0x31 ⟦<DeclareShape as ShapeTree>⟧.tree ⟦<Declare as Record>⟧.parts };
 
     fn serialize<S: Serializer>(&self, serializer: &mut S) -> Result<S::Ok, S::Error> {
@@ -61,14 +56,11 @@ impl RoundTripComposite for Declare {
     }
 }
 
-/// What a [`Discharge`] is read from.
 type DischargeFields = Required<ByteBuf, Optional<bool, ()>>;
 
 type DischargeShape = ListOf<DischargeFields>;
 
 impl Record for Discharge {
-    ghost use Rattle.serde_amqp.specs.Derive.{◌▸◌};
-
     type Values = <DischargeShape as Shape>::Value;
 
     ghost parts = { λ x. x.txn_id ▸ x.fail ▸ tt };
@@ -79,9 +71,6 @@ impl Record for Discharge {
 }
 
 impl Composite for Discharge {
-    ghost use Rattle.std.specs.Prelude.{codes};
-    ghost use Rattle.serde_amqp.specs.Derive.{by_parts};
-
     ghost descriptor_code = { 0x32 };
 
     ghost descriptor_name = { codes "amqp:discharge:list" };
@@ -100,8 +89,6 @@ impl Composite for Discharge {
 }
 
 impl Serialize for Discharge {
-    ghost use Rattle.serde_amqp.specs.Derive.{after_code};
-
     ghost tree = { after_code 0x32 ⟦<DischargeShape as ShapeTree>⟧.tree
         ⟦<Discharge as Record>⟧.parts };
 
@@ -119,14 +106,20 @@ impl RoundTripComposite for Discharge {
     }
 }
 
-/// What a [`Declared`] is read from.
+impl Discharge {
+    /// Returns a value with these fields. The others are `None`.
+    pub fn new(txn_id: ByteBuf) -> Discharge
+        ensures { ⟦<Discharge as Record>⟧.parts result ≡ txn_id ▸ None ▸ tt }
+    {
+        Discharge { txn_id, fail: None }
+    }
+}
+
 type DeclaredFields = Required<ByteBuf, ()>;
 
 type DeclaredShape = ListOf<DeclaredFields>;
 
 impl Record for Declared {
-    ghost use Rattle.serde_amqp.specs.Derive.{◌▸◌};
-
     type Values = <DeclaredShape as Shape>::Value;
 
     ghost parts = { λ x. x.txn_id ▸ tt };
@@ -137,9 +130,6 @@ impl Record for Declared {
 }
 
 impl Composite for Declared {
-    ghost use Rattle.std.specs.Prelude.{codes};
-    ghost use Rattle.serde_amqp.specs.Derive.{by_parts};
-
     ghost descriptor_code = { 0x33 };
 
     ghost descriptor_name = { codes "amqp:declared:list" };
@@ -158,8 +148,6 @@ impl Composite for Declared {
 }
 
 impl Serialize for Declared {
-    ghost use Rattle.serde_amqp.specs.Derive.{after_code};
-
     ghost tree = { after_code 0x33 ⟦<DeclaredShape as ShapeTree>⟧.tree
         ⟦<Declared as Record>⟧.parts };
 
@@ -171,5 +159,14 @@ impl Serialize for Declared {
 impl RoundTripComposite for Declared {
     fn composite_law() {
         composite_returns::<Declared, DeclaredShape>();
+    }
+}
+
+impl Declared {
+    /// Returns a value with these fields.
+    pub fn new(txn_id: ByteBuf) -> Declared
+        ensures { ⟦<Declared as Record>⟧.parts result ≡ txn_id ▸ tt }
+    {
+        Declared { txn_id }
     }
 }

@@ -1,5 +1,8 @@
 //! tools/derive wrote this file from conditions.rt: it is not edited by hand.
 
+ghost use Rattle.std.specs.Prelude.{◌≡◌, Some, List, ℕ, codes, IfSome, IfNone};
+ghost use Rattle.serde_amqp.specs.Derive.{scalar, symbol, by_text};
+
 use super::{AmqpCondition, ConnectionCondition};
 use serde_amqp::derive::{
     Fault, Global, Name, Readable, RoundTripReadable, Serialize, Serializer, Source, ValueKind,
@@ -7,8 +10,6 @@ use serde_amqp::derive::{
 };
 
 impl AmqpCondition {
-    ghost use Rattle.std.specs.Prelude.{◌≡◌, IfSome, IfNone};
-    ghost use Rattle.serde_amqp.specs.Derive.{scalar, symbol};
     ghost use Rattle.amqp_types.specs.declared.conditions.AmqpCondition.{AmqpCondition};
 
     /// Returns the text of the value.
@@ -83,8 +84,6 @@ impl AmqpCondition {
 }
 
 impl Readable for AmqpCondition {
-    ghost use Rattle.std.specs.Prelude.{List, ℕ, codes};
-    ghost use Rattle.serde_amqp.specs.Derive.{by_text};
     ghost use Rattle.amqp_types.specs.declared.conditions.AmqpCondition.TheVariants as variant;
 
     ghost laws = { by_text (λ x. elim x as (λ _. List ℕ) [
@@ -117,8 +116,6 @@ impl Readable for AmqpCondition {
 }
 
 impl Serialize for AmqpCondition {
-    ghost use Rattle.std.specs.Prelude.{Some};
-
     ghost tree = { λ x. Some (⟦<AmqpCondition as Readable>⟧.laws.image x) };
 
     fn serialize<S: Serializer>(&self, serializer: &mut S) -> Result<S::Ok, S::Error> {
@@ -131,9 +128,6 @@ impl RoundTripReadable for AmqpCondition {
 }
 
 impl ConnectionCondition {
-    ghost use Rattle.std.specs.Prelude.{◌≡◌};
-    ghost use Rattle.serde_amqp.specs.Derive.{scalar, symbol};
-
     /// Returns the text of the value.
     pub fn as_str(&self) -> &'static str
         ensures { scalar (symbol result.now) ≡ ⟦<ConnectionCondition as Readable>⟧.laws.image
@@ -148,8 +142,6 @@ impl ConnectionCondition {
 }
 
 impl Readable for ConnectionCondition {
-    ghost use Rattle.std.specs.Prelude.{List, ℕ, codes};
-    ghost use Rattle.serde_amqp.specs.Derive.{by_text};
     ghost use Rattle.amqp_types.specs.declared.conditions.ConnectionCondition.TheVariants as variant;
 
     ghost laws = { by_text (λ x. elim x as (λ _. List ℕ) [
@@ -181,8 +173,6 @@ impl Readable for ConnectionCondition {
 }
 
 impl Serialize for ConnectionCondition {
-    ghost use Rattle.std.specs.Prelude.{Some};
-
     ghost tree = { λ x. Some (⟦<ConnectionCondition as Readable>⟧.laws.image x) };
 
     fn serialize<S: Serializer>(&self, serializer: &mut S) -> Result<S::Ok, S::Error> {

@@ -1,5 +1,8 @@
 //! tools/derive wrote this file from connection.rt: it is not edited by hand.
 
+ghost use Rattle.std.specs.Prelude.{◌≡◌, None, codes};
+ghost use Rattle.serde_amqp.specs.Derive.{value_or, ◌▸◌, by_parts, after_code};
+
 use super::{Multiple, Open, OrderedMap, Symbol, Value};
 use serde_amqp::derive::{
     Composite, Fault, Global, ListOf, Optional, Record, Required, RoundTripComposite, Serialize,
@@ -7,7 +10,6 @@ use serde_amqp::derive::{
     named, read_shaped,
 };
 
-/// What an [`Open`] is read from.
 type OpenFields = Required<String, Optional<String, Optional<u32, Optional<u16, OpenFields2>>>>;
 
 type OpenFields2 = Optional<u32, Optional<Multiple<Symbol>, OpenFields3>>;
@@ -19,8 +21,6 @@ type OpenFields4 = Optional<Multiple<Symbol>, Optional<OrderedMap<Symbol, Value>
 type OpenShape = ListOf<OpenFields>;
 
 impl Record for Open {
-    ghost use Rattle.serde_amqp.specs.Derive.{◌▸◌};
-
     type Values = <OpenShape as Shape>::Value;
 
     ghost parts = { λ x. x.container_id ▸ x.hostname ▸ x.max_frame_size ▸ x.channel_max ▸
@@ -36,9 +36,6 @@ impl Record for Open {
 }
 
 impl Composite for Open {
-    ghost use Rattle.std.specs.Prelude.{codes};
-    ghost use Rattle.serde_amqp.specs.Derive.{by_parts};
-
     ghost descriptor_code = { 0x10 };
 
     ghost descriptor_name = { codes "amqp:open:list" };
@@ -61,8 +58,6 @@ impl Composite for Open {
 }
 
 impl Serialize for Open {
-    ghost use Rattle.serde_amqp.specs.Derive.{after_code};
-
     ghost tree = { after_code 0x10 ⟦<OpenShape as ShapeTree>⟧.tree ⟦<Open as Record>⟧.parts };
 
     fn serialize<S: Serializer>(&self, serializer: &mut S) -> Result<S::Ok, S::Error> {
@@ -88,26 +83,36 @@ impl RoundTripComposite for Open {
 }
 
 impl Open {
-    ghost use Rattle.std.specs.Prelude.{◌≡◌};
-    ghost use Rattle.serde_amqp.specs.Derive.{value_or};
+    /// Returns a value with these fields. The others are `None`.
+    pub fn new(container_id: String) -> Open
+        ensures { ⟦<Open as Record>⟧.parts result ≡ container_id ▸ None ▸ None ▸ None ▸ None ▸ None
+            ▸ None ▸ None ▸ None ▸ None ▸ tt }
+    {
+        Open {
+            container_id,
+            hostname: None,
+            max_frame_size: None,
+            channel_max: None,
+            idle_time_out: None,
+            outgoing_locales: None,
+            incoming_locales: None,
+            offered_capabilities: None,
+            desired_capabilities: None,
+            properties: None,
+        }
+    }
 
     /// Returns `max_frame_size`, or `4294967295` if it is absent.
     pub fn max_frame_size_or_default(&self) -> u32
         ensures { result ≡ value_or 4294967295 self.now.max_frame_size }
     {
-        match self.max_frame_size {
-            Some(value) => value,
-            None => 4294967295,
-        }
+        self.max_frame_size.unwrap_or(4294967295)
     }
 
     /// Returns `channel_max`, or `65535` if it is absent.
     pub fn channel_max_or_default(&self) -> u16
         ensures { result ≡ value_or 65535 self.now.channel_max }
     {
-        match self.channel_max {
-            Some(value) => value,
-            None => 65535,
-        }
+        self.channel_max.unwrap_or(65535)
     }
 }

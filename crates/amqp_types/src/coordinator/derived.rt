@@ -1,5 +1,9 @@
 //! tools/derive wrote this file from coordinator.rt: it is not edited by hand.
 
+ghost use Rattle.std.specs.Prelude.{◌≡◌, Some, None, List, ℕ, codes};
+ghost use Rattle.serde_amqp.specs.Derive.{scalar, symbol, ◌▸◌, by_parts, by_text, tree_by_parts};
+ghost use Rattle.serde_amqp.specs.Derive.{after_code, first, second};
+
 use super::{AnyTarget, Coordinator, Multiple, Symbol, Target, TxnCapability};
 use serde_amqp::derive::{
     Composite, Either, Fault, Global, ListOf, Name, Never, OneOfTypes, Optional, PhantomData,
@@ -8,14 +12,11 @@ use serde_amqp::derive::{
     parts_return, place, read_shaped, read_symbol,
 };
 
-/// What a [`Coordinator`] is read from.
 type CoordinatorFields = Optional<Multiple<Symbol>, ()>;
 
 type CoordinatorShape = ListOf<CoordinatorFields>;
 
 impl Record for Coordinator {
-    ghost use Rattle.serde_amqp.specs.Derive.{◌▸◌};
-
     type Values = <CoordinatorShape as Shape>::Value;
 
     ghost parts = { λ x. x.capabilities ▸ tt };
@@ -26,9 +27,6 @@ impl Record for Coordinator {
 }
 
 impl Composite for Coordinator {
-    ghost use Rattle.std.specs.Prelude.{codes};
-    ghost use Rattle.serde_amqp.specs.Derive.{by_parts};
-
     ghost descriptor_code = { 0x30 };
 
     ghost descriptor_name = { codes "amqp:coordinator:list" };
@@ -47,8 +45,6 @@ impl Composite for Coordinator {
 }
 
 impl Serialize for Coordinator {
-    ghost use Rattle.serde_amqp.specs.Derive.{after_code};
-
     ghost tree = { after_code 0x30 ⟦<CoordinatorShape as ShapeTree>⟧.tree
         ⟦<Coordinator as Record>⟧.parts };
 
@@ -67,9 +63,6 @@ impl RoundTripComposite for Coordinator {
 }
 
 impl TxnCapability {
-    ghost use Rattle.std.specs.Prelude.{◌≡◌};
-    ghost use Rattle.serde_amqp.specs.Derive.{scalar, symbol};
-
     /// Returns the text of the value.
     pub fn as_str(&self) -> &'static str
         ensures { scalar (symbol result.now) ≡ ⟦<TxnCapability as Readable>⟧.laws.image self.now }
@@ -85,8 +78,6 @@ impl TxnCapability {
 }
 
 impl Readable for TxnCapability {
-    ghost use Rattle.std.specs.Prelude.{List, ℕ, codes};
-    ghost use Rattle.serde_amqp.specs.Derive.{by_text};
     ghost use Rattle.amqp_types.specs.declared.coordinator.TxnCapability.TheVariants as variant;
 
     ghost laws = { by_text (λ x. elim x as (λ _. List ℕ) [
@@ -123,8 +114,6 @@ impl Readable for TxnCapability {
 }
 
 impl Serialize for TxnCapability {
-    ghost use Rattle.std.specs.Prelude.{Some};
-
     ghost tree = { λ x. Some (⟦<TxnCapability as Readable>⟧.laws.image x) };
 
     fn serialize<S: Serializer>(&self, serializer: &mut S) -> Result<S::Ok, S::Error> {
@@ -136,13 +125,11 @@ impl RoundTripReadable for TxnCapability {
     fn readable_law() {}
 }
 
-/// What an [`AnyTarget`] is read from.
 type AnyTargetTypes = Either<Target, Either<Coordinator, Never>>;
 
 type AnyTargetShape = OneOfTypes<AnyTargetTypes>;
 
 impl Record for AnyTarget {
-    ghost use Rattle.serde_amqp.specs.Derive.{first, second};
     ghost use Rattle.amqp_types.specs.declared.coordinator.AnyTarget.TheVariants as variant;
 
     type Values = <AnyTargetShape as Shape>::Value;
@@ -162,8 +149,6 @@ impl Record for AnyTarget {
 }
 
 impl Readable for AnyTarget {
-    ghost use Rattle.serde_amqp.specs.Derive.{by_parts};
-
     ghost laws = { by_parts ⟦<AnyTargetShape as Shape>⟧.laws ⟦<AnyTarget as Record>⟧.parts };
 
     #[inline(always)]
@@ -173,8 +158,6 @@ impl Readable for AnyTarget {
 }
 
 impl Serialize for AnyTarget {
-    ghost use Rattle.serde_amqp.specs.Derive.{tree_by_parts};
-
     ghost tree = { tree_by_parts ⟦<AnyTargetShape as ShapeTree>⟧.tree
         ⟦<AnyTarget as Record>⟧.parts };
 

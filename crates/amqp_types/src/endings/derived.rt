@@ -1,5 +1,8 @@
 //! tools/derive wrote this file from endings.rt: it is not edited by hand.
 
+ghost use Rattle.std.specs.Prelude.{◌≡◌, None, false, codes};
+ghost use Rattle.serde_amqp.specs.Derive.{value_or, ◌▸◌, by_parts, after_code};
+
 use super::{AmqpError, Close, Detach, End};
 use serde_amqp::derive::{
     Composite, Fault, Global, ListOf, Optional, Record, Required, RoundTripComposite, Serialize,
@@ -7,14 +10,11 @@ use serde_amqp::derive::{
     named, read_shaped,
 };
 
-/// What a [`Detach`] is read from.
 type DetachFields = Required<u32, Optional<bool, Optional<AmqpError, ()>>>;
 
 type DetachShape = ListOf<DetachFields>;
 
 impl Record for Detach {
-    ghost use Rattle.serde_amqp.specs.Derive.{◌▸◌};
-
     type Values = <DetachShape as Shape>::Value;
 
     ghost parts = { λ x. x.handle ▸ x.closed ▸ x.error ▸ tt };
@@ -25,9 +25,6 @@ impl Record for Detach {
 }
 
 impl Composite for Detach {
-    ghost use Rattle.std.specs.Prelude.{codes};
-    ghost use Rattle.serde_amqp.specs.Derive.{by_parts};
-
     ghost descriptor_code = { 0x16 };
 
     ghost descriptor_name = { codes "amqp:detach:list" };
@@ -46,8 +43,6 @@ impl Composite for Detach {
 }
 
 impl Serialize for Detach {
-    ghost use Rattle.serde_amqp.specs.Derive.{after_code};
-
     ghost tree = { after_code 0x16 ⟦<DetachShape as ShapeTree>⟧.tree ⟦<Detach as Record>⟧.parts };
 
     fn serialize<S: Serializer>(&self, serializer: &mut S) -> Result<S::Ok, S::Error> {
@@ -67,28 +62,30 @@ impl RoundTripComposite for Detach {
 }
 
 impl Detach {
-    ghost use Rattle.std.specs.Prelude.{◌≡◌, false};
-    ghost use Rattle.serde_amqp.specs.Derive.{value_or};
+    /// Returns a value with these fields. The others are `None`.
+    pub fn new(handle: u32) -> Detach
+        ensures { ⟦<Detach as Record>⟧.parts result ≡ handle ▸ None ▸ None ▸ tt }
+    {
+        Detach {
+            handle,
+            closed: None,
+            error: None,
+        }
+    }
 
     /// Returns `closed`, or `false` if it is absent.
     pub fn closed_or_default(&self) -> bool
         ensures { result ≡ value_or false self.now.closed }
     {
-        match self.closed {
-            Some(value) => value,
-            None => false,
-        }
+        self.closed.unwrap_or(false)
     }
 }
 
-/// What an [`End`] is read from.
 type EndFields = Optional<AmqpError, ()>;
 
 type EndShape = ListOf<EndFields>;
 
 impl Record for End {
-    ghost use Rattle.serde_amqp.specs.Derive.{◌▸◌};
-
     type Values = <EndShape as Shape>::Value;
 
     ghost parts = { λ x. x.error ▸ tt };
@@ -99,9 +96,6 @@ impl Record for End {
 }
 
 impl Composite for End {
-    ghost use Rattle.std.specs.Prelude.{codes};
-    ghost use Rattle.serde_amqp.specs.Derive.{by_parts};
-
     ghost descriptor_code = { 0x17 };
 
     ghost descriptor_name = { codes "amqp:end:list" };
@@ -120,8 +114,6 @@ impl Composite for End {
 }
 
 impl Serialize for End {
-    ghost use Rattle.serde_amqp.specs.Derive.{after_code};
-
     ghost tree = { after_code 0x17 ⟦<EndShape as ShapeTree>⟧.tree ⟦<End as Record>⟧.parts };
 
     fn serialize<S: Serializer>(&self, serializer: &mut S) -> Result<S::Ok, S::Error> {
@@ -135,14 +127,11 @@ impl RoundTripComposite for End {
     }
 }
 
-/// What a [`Close`] is read from.
 type CloseFields = Optional<AmqpError, ()>;
 
 type CloseShape = ListOf<CloseFields>;
 
 impl Record for Close {
-    ghost use Rattle.serde_amqp.specs.Derive.{◌▸◌};
-
     type Values = <CloseShape as Shape>::Value;
 
     ghost parts = { λ x. x.error ▸ tt };
@@ -153,9 +142,6 @@ impl Record for Close {
 }
 
 impl Composite for Close {
-    ghost use Rattle.std.specs.Prelude.{codes};
-    ghost use Rattle.serde_amqp.specs.Derive.{by_parts};
-
     ghost descriptor_code = { 0x18 };
 
     ghost descriptor_name = { codes "amqp:close:list" };
@@ -174,8 +160,6 @@ impl Composite for Close {
 }
 
 impl Serialize for Close {
-    ghost use Rattle.serde_amqp.specs.Derive.{after_code};
-
     ghost tree = { after_code 0x18 ⟦<CloseShape as ShapeTree>⟧.tree ⟦<Close as Record>⟧.parts };
 
     fn serialize<S: Serializer>(&self, serializer: &mut S) -> Result<S::Ok, S::Error> {

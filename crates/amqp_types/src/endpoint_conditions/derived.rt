@@ -1,5 +1,8 @@
 //! tools/derive wrote this file from endpoint_conditions.rt: it is not edited by hand.
 
+ghost use Rattle.std.specs.Prelude.{◌≡◌, Some, List, ℕ, codes};
+ghost use Rattle.serde_amqp.specs.Derive.{scalar, symbol, by_text};
+
 use super::{LinkCondition, SessionCondition, TransactionCondition};
 use serde_amqp::derive::{
     Fault, Global, Name, Readable, RoundTripReadable, Serialize, Serializer, Source, ValueKind,
@@ -7,9 +10,6 @@ use serde_amqp::derive::{
 };
 
 impl SessionCondition {
-    ghost use Rattle.std.specs.Prelude.{◌≡◌};
-    ghost use Rattle.serde_amqp.specs.Derive.{scalar, symbol};
-
     /// Returns the text of the value.
     pub fn as_str(&self) -> &'static str
         ensures { scalar (symbol result.now) ≡ ⟦<SessionCondition as Readable>⟧.laws.image self.now }
@@ -24,8 +24,6 @@ impl SessionCondition {
 }
 
 impl Readable for SessionCondition {
-    ghost use Rattle.std.specs.Prelude.{List, ℕ, codes};
-    ghost use Rattle.serde_amqp.specs.Derive.{by_text};
     ghost use Rattle.amqp_types.specs.declared.endpoint_conditions.SessionCondition.TheVariants as variant;
 
     ghost laws = { by_text (λ x. elim x as (λ _. List ℕ) [
@@ -61,8 +59,6 @@ impl Readable for SessionCondition {
 }
 
 impl Serialize for SessionCondition {
-    ghost use Rattle.std.specs.Prelude.{Some};
-
     ghost tree = { λ x. Some (⟦<SessionCondition as Readable>⟧.laws.image x) };
 
     fn serialize<S: Serializer>(&self, serializer: &mut S) -> Result<S::Ok, S::Error> {
@@ -75,9 +71,6 @@ impl RoundTripReadable for SessionCondition {
 }
 
 impl LinkCondition {
-    ghost use Rattle.std.specs.Prelude.{◌≡◌};
-    ghost use Rattle.serde_amqp.specs.Derive.{scalar, symbol};
-
     /// Returns the text of the value.
     pub fn as_str(&self) -> &'static str
         ensures { scalar (symbol result.now) ≡ ⟦<LinkCondition as Readable>⟧.laws.image self.now }
@@ -93,8 +86,6 @@ impl LinkCondition {
 }
 
 impl Readable for LinkCondition {
-    ghost use Rattle.std.specs.Prelude.{List, ℕ, codes};
-    ghost use Rattle.serde_amqp.specs.Derive.{by_text};
     ghost use Rattle.amqp_types.specs.declared.endpoint_conditions.LinkCondition.TheVariants as variant;
 
     ghost laws = { by_text (λ x. elim x as (λ _. List ℕ) [
@@ -131,8 +122,6 @@ impl Readable for LinkCondition {
 }
 
 impl Serialize for LinkCondition {
-    ghost use Rattle.std.specs.Prelude.{Some};
-
     ghost tree = { λ x. Some (⟦<LinkCondition as Readable>⟧.laws.image x) };
 
     fn serialize<S: Serializer>(&self, serializer: &mut S) -> Result<S::Ok, S::Error> {
@@ -145,9 +134,6 @@ impl RoundTripReadable for LinkCondition {
 }
 
 impl TransactionCondition {
-    ghost use Rattle.std.specs.Prelude.{◌≡◌};
-    ghost use Rattle.serde_amqp.specs.Derive.{scalar, symbol};
-
     /// Returns the text of the value.
     pub fn as_str(&self) -> &'static str
         ensures { scalar (symbol result.now) ≡ ⟦<TransactionCondition as Readable>⟧.laws.image
@@ -162,8 +148,6 @@ impl TransactionCondition {
 }
 
 impl Readable for TransactionCondition {
-    ghost use Rattle.std.specs.Prelude.{List, ℕ, codes};
-    ghost use Rattle.serde_amqp.specs.Derive.{by_text};
     ghost use Rattle.amqp_types.specs.declared.endpoint_conditions.TransactionCondition.TheVariants as variant;
 
     ghost laws = { by_text (λ x. elim x as (λ _. List ℕ) [
@@ -195,8 +179,6 @@ impl Readable for TransactionCondition {
 }
 
 impl Serialize for TransactionCondition {
-    ghost use Rattle.std.specs.Prelude.{Some};
-
     ghost tree = { λ x. Some (⟦<TransactionCondition as Readable>⟧.laws.image x) };
 
     fn serialize<S: Serializer>(&self, serializer: &mut S) -> Result<S::Ok, S::Error> {

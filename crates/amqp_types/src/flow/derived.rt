@@ -1,5 +1,8 @@
 //! tools/derive wrote this file from flow.rt: it is not edited by hand.
 
+ghost use Rattle.std.specs.Prelude.{◌≡◌, None, false, codes};
+ghost use Rattle.serde_amqp.specs.Derive.{value_or, ◌▸◌, by_parts, after_code};
+
 use super::{Flow, OrderedMap, Symbol, Value};
 use serde_amqp::derive::{
     Composite, Fault, Global, ListOf, Optional, Record, Required, RoundTripComposite, Serialize,
@@ -7,7 +10,6 @@ use serde_amqp::derive::{
     named, read_shaped,
 };
 
-/// What a [`Flow`] is read from.
 type FlowFields = Optional<u32, Required<u32, Required<u32, Required<u32, FlowFields2>>>>;
 
 type FlowFields2 = Optional<u32, Optional<u32, Optional<u32, Optional<u32, FlowFields3>>>>;
@@ -19,8 +21,6 @@ type FlowFields4 = Optional<OrderedMap<Symbol, Value>, ()>;
 type FlowShape = ListOf<FlowFields>;
 
 impl Record for Flow {
-    ghost use Rattle.serde_amqp.specs.Derive.{◌▸◌};
-
     type Values = <FlowShape as Shape>::Value;
 
     ghost parts = { λ x. x.next_incoming_id ▸ x.incoming_window ▸ x.next_outgoing_id ▸
@@ -36,9 +36,6 @@ impl Record for Flow {
 }
 
 impl Composite for Flow {
-    ghost use Rattle.std.specs.Prelude.{codes};
-    ghost use Rattle.serde_amqp.specs.Derive.{by_parts};
-
     ghost descriptor_code = { 0x13 };
 
     ghost descriptor_name = { codes "amqp:flow:list" };
@@ -61,8 +58,6 @@ impl Composite for Flow {
 }
 
 impl Serialize for Flow {
-    ghost use Rattle.serde_amqp.specs.Derive.{after_code};
-
     ghost tree = { after_code 0x13 ⟦<FlowShape as ShapeTree>⟧.tree ⟦<Flow as Record>⟧.parts };
 
     fn serialize<S: Serializer>(&self, serializer: &mut S) -> Result<S::Ok, S::Error> {
@@ -88,26 +83,37 @@ impl RoundTripComposite for Flow {
 }
 
 impl Flow {
-    ghost use Rattle.std.specs.Prelude.{◌≡◌, false};
-    ghost use Rattle.serde_amqp.specs.Derive.{value_or};
+    /// Returns a value with these fields. The others are `None`.
+    pub fn new(incoming_window: u32, next_outgoing_id: u32, outgoing_window: u32) -> Flow
+        ensures { ⟦<Flow as Record>⟧.parts result ≡ None ▸ incoming_window ▸ next_outgoing_id ▸
+            outgoing_window ▸ None ▸ None ▸ None ▸ None ▸ None ▸ None ▸ None ▸ tt }
+    {
+        Flow {
+            next_incoming_id: None,
+            incoming_window,
+            next_outgoing_id,
+            outgoing_window,
+            handle: None,
+            delivery_count: None,
+            link_credit: None,
+            available: None,
+            drain: None,
+            echo: None,
+            properties: None,
+        }
+    }
 
     /// Returns `drain`, or `false` if it is absent.
     pub fn drain_or_default(&self) -> bool
         ensures { result ≡ value_or false self.now.drain }
     {
-        match self.drain {
-            Some(value) => value,
-            None => false,
-        }
+        self.drain.unwrap_or(false)
     }
 
     /// Returns `echo`, or `false` if it is absent.
     pub fn echo_or_default(&self) -> bool
         ensures { result ≡ value_or false self.now.echo }
     {
-        match self.echo {
-            Some(value) => value,
-            None => false,
-        }
+        self.echo.unwrap_or(false)
     }
 }

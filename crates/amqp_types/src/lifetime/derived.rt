@@ -1,5 +1,9 @@
 //! tools/derive wrote this file from lifetime.rt: it is not edited by hand.
 
+ghost use Rattle.std.specs.Prelude.{◌≡◌, codes};
+ghost use Rattle.serde_amqp.specs.Derive.{◌▸◌, by_parts, tree_by_parts, after_code, first, second};
+ghost use Rattle.serde_amqp.specs.Derive.{third, fourth};
+
 use super::{
     DeleteOnClose, DeleteOnNoLinks, DeleteOnNoLinksOrMessages, DeleteOnNoMessages, LifetimePolicy,
 };
@@ -9,7 +13,6 @@ use serde_amqp::derive::{
     ShapeTree, Source, built, composite_returns, fields, parts_return, place, read_shaped,
 };
 
-/// What a [`DeleteOnClose`] is read from.
 type DeleteOnCloseShape = ListOf<()>;
 
 impl Record for DeleteOnClose {
@@ -23,9 +26,6 @@ impl Record for DeleteOnClose {
 }
 
 impl Composite for DeleteOnClose {
-    ghost use Rattle.std.specs.Prelude.{codes};
-    ghost use Rattle.serde_amqp.specs.Derive.{by_parts};
-
     ghost descriptor_code = { 0x2b };
 
     ghost descriptor_name = { codes "amqp:delete-on-close:list" };
@@ -44,8 +44,6 @@ impl Composite for DeleteOnClose {
 }
 
 impl Serialize for DeleteOnClose {
-    ghost use Rattle.serde_amqp.specs.Derive.{after_code};
-
     ghost tree = { after_code 0x2b ⟦<DeleteOnCloseShape as ShapeTree>⟧.tree
         ⟦<DeleteOnClose as Record>⟧.parts };
 
@@ -60,7 +58,6 @@ impl RoundTripComposite for DeleteOnClose {
     }
 }
 
-/// What a [`DeleteOnNoLinks`] is read from.
 type DeleteOnNoLinksShape = ListOf<()>;
 
 impl Record for DeleteOnNoLinks {
@@ -74,9 +71,6 @@ impl Record for DeleteOnNoLinks {
 }
 
 impl Composite for DeleteOnNoLinks {
-    ghost use Rattle.std.specs.Prelude.{codes};
-    ghost use Rattle.serde_amqp.specs.Derive.{by_parts};
-
     ghost descriptor_code = { 0x2c };
 
     ghost descriptor_name = { codes "amqp:delete-on-no-links:list" };
@@ -95,8 +89,6 @@ impl Composite for DeleteOnNoLinks {
 }
 
 impl Serialize for DeleteOnNoLinks {
-    ghost use Rattle.serde_amqp.specs.Derive.{after_code};
-
     ghost tree = { after_code 0x2c ⟦<DeleteOnNoLinksShape as ShapeTree>⟧.tree
         ⟦<DeleteOnNoLinks as Record>⟧.parts };
 
@@ -111,7 +103,6 @@ impl RoundTripComposite for DeleteOnNoLinks {
     }
 }
 
-/// What a [`DeleteOnNoMessages`] is read from.
 type DeleteOnNoMessagesShape = ListOf<()>;
 
 impl Record for DeleteOnNoMessages {
@@ -125,9 +116,6 @@ impl Record for DeleteOnNoMessages {
 }
 
 impl Composite for DeleteOnNoMessages {
-    ghost use Rattle.std.specs.Prelude.{codes};
-    ghost use Rattle.serde_amqp.specs.Derive.{by_parts};
-
     ghost descriptor_code = { 0x2d };
 
     ghost descriptor_name = { codes "amqp:delete-on-no-messages:list" };
@@ -149,8 +137,6 @@ impl Composite for DeleteOnNoMessages {
 }
 
 impl Serialize for DeleteOnNoMessages {
-    ghost use Rattle.serde_amqp.specs.Derive.{after_code};
-
     ghost tree = { after_code 0x2d ⟦<DeleteOnNoMessagesShape as ShapeTree>⟧.tree
         ⟦<DeleteOnNoMessages as Record>⟧.parts };
 
@@ -165,7 +151,6 @@ impl RoundTripComposite for DeleteOnNoMessages {
     }
 }
 
-/// What a [`DeleteOnNoLinksOrMessages`] is read from.
 type DeleteOnNoLinksOrMessagesShape = ListOf<()>;
 
 impl Record for DeleteOnNoLinksOrMessages {
@@ -181,9 +166,6 @@ impl Record for DeleteOnNoLinksOrMessages {
 }
 
 impl Composite for DeleteOnNoLinksOrMessages {
-    ghost use Rattle.std.specs.Prelude.{codes};
-    ghost use Rattle.serde_amqp.specs.Derive.{by_parts};
-
     ghost descriptor_code = { 0x2e };
 
     ghost descriptor_name = { codes "amqp:delete-on-no-links-or-messages:list" };
@@ -205,8 +187,6 @@ impl Composite for DeleteOnNoLinksOrMessages {
 }
 
 impl Serialize for DeleteOnNoLinksOrMessages {
-    ghost use Rattle.serde_amqp.specs.Derive.{after_code};
-
     ghost tree = { after_code 0x2e ⟦<DeleteOnNoLinksOrMessagesShape as ShapeTree>⟧.tree
         ⟦<DeleteOnNoLinksOrMessages as Record>⟧.parts };
 
@@ -221,7 +201,6 @@ impl RoundTripComposite for DeleteOnNoLinksOrMessages {
     }
 }
 
-/// What a [`LifetimePolicy`] is read from.
 type LifetimePolicyTypes = Either<DeleteOnClose, Either<DeleteOnNoLinks, LifetimePolicyTypes2>>;
 
 type LifetimePolicyTypes2 = Either<DeleteOnNoMessages, LifetimePolicyTypes3>;
@@ -231,7 +210,6 @@ type LifetimePolicyTypes3 = Either<DeleteOnNoLinksOrMessages, Never>;
 type LifetimePolicyShape = OneOfTypes<LifetimePolicyTypes>;
 
 impl Record for LifetimePolicy {
-    ghost use Rattle.serde_amqp.specs.Derive.{first, second, third, fourth};
     ghost use Rattle.amqp_types.specs.declared.lifetime.LifetimePolicy.TheVariants as variant;
 
     type Values = <LifetimePolicyShape as Shape>::Value;
@@ -255,8 +233,6 @@ impl Record for LifetimePolicy {
 }
 
 impl Readable for LifetimePolicy {
-    ghost use Rattle.serde_amqp.specs.Derive.{by_parts};
-
     ghost laws = { by_parts ⟦<LifetimePolicyShape as Shape>⟧.laws
         ⟦<LifetimePolicy as Record>⟧.parts };
 
@@ -267,8 +243,6 @@ impl Readable for LifetimePolicy {
 }
 
 impl Serialize for LifetimePolicy {
-    ghost use Rattle.serde_amqp.specs.Derive.{tree_by_parts};
-
     ghost tree = { tree_by_parts ⟦<LifetimePolicyShape as ShapeTree>⟧.tree
         ⟦<LifetimePolicy as Record>⟧.parts };
 

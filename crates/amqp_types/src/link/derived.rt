@@ -1,5 +1,8 @@
 //! tools/derive wrote this file from link.rt: it is not edited by hand.
 
+ghost use Rattle.std.specs.Prelude.{◌≡◌, None, false, codes};
+ghost use Rattle.serde_amqp.specs.Derive.{value_or, ◌▸◌, by_parts, after_code};
+
 use super::{
     AnyTarget, Attach, ByteBuf, DeliveryState, Multiple, OrderedMap, ReceiverSettleMode, Role,
     SenderSettleMode, Source, Symbol, Value,
@@ -10,7 +13,6 @@ use serde_amqp::derive::{
     read_shaped,
 };
 
-/// What an [`Attach`] is read from.
 type AttachFields = Required<String, Required<u32, Required<Role, AttachFields2>>>;
 
 type AttachFields2 = Optional<SenderSettleMode, Optional<ReceiverSettleMode, AttachFields3>>;
@@ -28,8 +30,6 @@ type AttachFields7 = Optional<OrderedMap<Symbol, Value>, ()>;
 type AttachShape = ListOf<AttachFields>;
 
 impl Record for Attach {
-    ghost use Rattle.serde_amqp.specs.Derive.{◌▸◌};
-
     type Values = <AttachShape as Shape>::Value;
 
     ghost parts = { λ x. x.name ▸ x.handle ▸ x.role ▸ x.snd_settle_mode ▸ x.rcv_settle_mode ▸
@@ -46,9 +46,6 @@ impl Record for Attach {
 }
 
 impl Composite for Attach {
-    ghost use Rattle.std.specs.Prelude.{codes};
-    ghost use Rattle.serde_amqp.specs.Derive.{by_parts};
-
     ghost descriptor_code = { 0x12 };
 
     ghost descriptor_name = { codes "amqp:attach:list" };
@@ -74,8 +71,6 @@ impl Composite for Attach {
 }
 
 impl Serialize for Attach {
-    ghost use Rattle.serde_amqp.specs.Derive.{after_code};
-
     ghost tree = { after_code 0x12 ⟦<AttachShape as ShapeTree>⟧.tree ⟦<Attach as Record>⟧.parts };
 
     fn serialize<S: Serializer>(&self, serializer: &mut S) -> Result<S::Ok, S::Error> {
@@ -104,16 +99,33 @@ impl RoundTripComposite for Attach {
 }
 
 impl Attach {
-    ghost use Rattle.std.specs.Prelude.{◌≡◌, false};
-    ghost use Rattle.serde_amqp.specs.Derive.{value_or};
+    /// Returns a value with these fields. The others are `None`.
+    pub fn new(name: String, handle: u32, role: Role) -> Attach
+        ensures { ⟦<Attach as Record>⟧.parts result ≡ name ▸ handle ▸ role ▸ None ▸ None ▸ None ▸
+            None ▸ None ▸ None ▸ None ▸ None ▸ None ▸ None ▸ None ▸ tt }
+    {
+        Attach {
+            name,
+            handle,
+            role,
+            snd_settle_mode: None,
+            rcv_settle_mode: None,
+            source: None,
+            target: None,
+            unsettled: None,
+            incomplete_unsettled: None,
+            initial_delivery_count: None,
+            max_message_size: None,
+            offered_capabilities: None,
+            desired_capabilities: None,
+            properties: None,
+        }
+    }
 
     /// Returns `incomplete_unsettled`, or `false` if it is absent.
     pub fn incomplete_unsettled_or_default(&self) -> bool
         ensures { result ≡ value_or false self.now.incomplete_unsettled }
     {
-        match self.incomplete_unsettled {
-            Some(value) => value,
-            None => false,
-        }
+        self.incomplete_unsettled.unwrap_or(false)
     }
 }

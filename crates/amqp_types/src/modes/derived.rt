@@ -1,13 +1,14 @@
 //! tools/derive wrote this file from modes.rt: it is not edited by hand.
 
+ghost use Rattle.std.specs.Prelude.{Some, Bool, ℕ, true, false};
+ghost use Rattle.serde_amqp.specs.Derive.{scalar, bool, ubyte, by_image};
+
 use super::{ReceiverSettleMode, Role, SenderSettleMode};
 use serde_amqp::derive::{
     Fault, Global, Readable, RoundTripReadable, Serialize, Serializer, Source, ValueKind,
 };
 
 impl Readable for Role {
-    ghost use Rattle.std.specs.Prelude.{Bool, true, false};
-    ghost use Rattle.serde_amqp.specs.Derive.{scalar, bool, by_image};
     ghost use Rattle.amqp_types.specs.declared.modes.Role.TheVariants as variant;
 
     ghost laws = { by_image (λ x. scalar (bool (elim x as (λ _. Bool) [
@@ -25,8 +26,6 @@ impl Readable for Role {
 }
 
 impl Serialize for Role {
-    ghost use Rattle.std.specs.Prelude.{Some};
-
     ghost tree = { λ x. Some (⟦<Role as Readable>⟧.laws.image x) };
 
     fn serialize<S: Serializer>(&self, serializer: &mut S) -> Result<S::Ok, S::Error> {
@@ -42,8 +41,6 @@ impl RoundTripReadable for Role {
 }
 
 impl Readable for SenderSettleMode {
-    ghost use Rattle.std.specs.Prelude.{ℕ};
-    ghost use Rattle.serde_amqp.specs.Derive.{scalar, ubyte, by_image};
     ghost use Rattle.amqp_types.specs.declared.modes.SenderSettleMode.TheVariants as variant;
 
     ghost laws = { by_image (λ x. scalar (ubyte (elim x as (λ _. ℕ) [
@@ -67,8 +64,6 @@ impl Readable for SenderSettleMode {
 }
 
 impl Serialize for SenderSettleMode {
-    ghost use Rattle.std.specs.Prelude.{Some};
-
     ghost tree = { λ x. Some (⟦<SenderSettleMode as Readable>⟧.laws.image x) };
 
     fn serialize<S: Serializer>(&self, serializer: &mut S) -> Result<S::Ok, S::Error> {
@@ -85,8 +80,6 @@ impl RoundTripReadable for SenderSettleMode {
 }
 
 impl Readable for ReceiverSettleMode {
-    ghost use Rattle.std.specs.Prelude.{ℕ};
-    ghost use Rattle.serde_amqp.specs.Derive.{scalar, ubyte, by_image};
     ghost use Rattle.amqp_types.specs.declared.modes.ReceiverSettleMode.TheVariants as variant;
 
     ghost laws = { by_image (λ x. scalar (ubyte (elim x as (λ _. ℕ) [
@@ -108,8 +101,6 @@ impl Readable for ReceiverSettleMode {
 }
 
 impl Serialize for ReceiverSettleMode {
-    ghost use Rattle.std.specs.Prelude.{Some};
-
     ghost tree = { λ x. Some (⟦<ReceiverSettleMode as Readable>⟧.laws.image x) };
 
     fn serialize<S: Serializer>(&self, serializer: &mut S) -> Result<S::Ok, S::Error> {

@@ -1,5 +1,8 @@
 //! tools/derive wrote this file from performative.rt: it is not edited by hand.
 
+ghost use Rattle.serde_amqp.specs.Derive.{by_parts, tree_by_parts, first, second, third, fourth};
+ghost use Rattle.serde_amqp.specs.Derive.{fifth, sixth, seventh, eighth, ninth, rest9};
+
 use super::{
     Attach, Begin, Close, Detach, Disposition, End, Flow, Open, Performative, Transfer, Unknown,
 };
@@ -8,7 +11,6 @@ use serde_amqp::derive::{
     Serializer, Shape, ShapeTree, Source, parts_return, place, read_shaped,
 };
 
-/// What a [`Performative`] is read from.
 type PerformativeTypes = Either<Open, Either<Begin, Either<Attach, PerformativeTypes2>>>;
 
 type PerformativeTypes2 = Either<Flow, Either<Transfer, Either<Disposition, PerformativeTypes3>>>;
@@ -18,8 +20,6 @@ type PerformativeTypes3 = Either<Detach, Either<End, Either<Close, Unknown>>>;
 type PerformativeShape = OneOfTypes<PerformativeTypes>;
 
 impl Record for Performative {
-    ghost use Rattle.serde_amqp.specs.Derive.{first, second, third, fourth, fifth, sixth, seventh};
-    ghost use Rattle.serde_amqp.specs.Derive.{eighth, ninth, rest9};
     ghost use Rattle.amqp_types.specs.declared.performative.Performative.TheVariants as variant;
 
     type Values = <PerformativeShape as Shape>::Value;
@@ -54,8 +54,6 @@ impl Record for Performative {
 }
 
 impl Readable for Performative {
-    ghost use Rattle.serde_amqp.specs.Derive.{by_parts};
-
     ghost laws = { by_parts ⟦<PerformativeShape as Shape>⟧.laws ⟦<Performative as Record>⟧.parts };
 
     #[inline(always)]
@@ -65,8 +63,6 @@ impl Readable for Performative {
 }
 
 impl Serialize for Performative {
-    ghost use Rattle.serde_amqp.specs.Derive.{tree_by_parts};
-
     ghost tree = { tree_by_parts ⟦<PerformativeShape as ShapeTree>⟧.tree
         ⟦<Performative as Record>⟧.parts };
 

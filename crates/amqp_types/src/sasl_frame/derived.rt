@@ -1,5 +1,8 @@
 //! tools/derive wrote this file from sasl_frame.rt: it is not edited by hand.
 
+ghost use Rattle.serde_amqp.specs.Derive.{by_parts, tree_by_parts, first, second, third, fourth};
+ghost use Rattle.serde_amqp.specs.Derive.{fifth, rest5};
+
 use super::{
     SaslChallenge, SaslFrame, SaslInit, SaslMechanisms, SaslOutcome, SaslResponse, Unknown,
 };
@@ -8,7 +11,6 @@ use serde_amqp::derive::{
     Serializer, Shape, ShapeTree, Source, parts_return, place, read_shaped,
 };
 
-/// What a [`SaslFrame`] is read from.
 type SaslFrameTypes = Either<SaslMechanisms, Either<SaslInit, SaslFrameTypes2>>;
 
 type SaslFrameTypes2 = Either<SaslChallenge, Either<SaslResponse, SaslFrameTypes3>>;
@@ -18,7 +20,6 @@ type SaslFrameTypes3 = Either<SaslOutcome, Unknown>;
 type SaslFrameShape = OneOfTypes<SaslFrameTypes>;
 
 impl Record for SaslFrame {
-    ghost use Rattle.serde_amqp.specs.Derive.{first, second, third, fourth, fifth, rest5};
     ghost use Rattle.amqp_types.specs.declared.sasl_frame.SaslFrame.TheVariants as variant;
 
     type Values = <SaslFrameShape as Shape>::Value;
@@ -45,8 +46,6 @@ impl Record for SaslFrame {
 }
 
 impl Readable for SaslFrame {
-    ghost use Rattle.serde_amqp.specs.Derive.{by_parts};
-
     ghost laws = { by_parts ⟦<SaslFrameShape as Shape>⟧.laws ⟦<SaslFrame as Record>⟧.parts };
 
     #[inline(always)]
@@ -56,8 +55,6 @@ impl Readable for SaslFrame {
 }
 
 impl Serialize for SaslFrame {
-    ghost use Rattle.serde_amqp.specs.Derive.{tree_by_parts};
-
     ghost tree = { tree_by_parts ⟦<SaslFrameShape as ShapeTree>⟧.tree
         ⟦<SaslFrame as Record>⟧.parts };
 

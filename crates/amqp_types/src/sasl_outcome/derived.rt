@@ -1,5 +1,8 @@
 //! tools/derive wrote this file from sasl_outcome.rt: it is not edited by hand.
 
+ghost use Rattle.std.specs.Prelude.{◌≡◌, Some, None, ℕ, codes};
+ghost use Rattle.serde_amqp.specs.Derive.{scalar, ubyte, ◌▸◌, by_parts, by_image, after_code};
+
 use super::{ByteBuf, SaslCode, SaslOutcome};
 use serde_amqp::derive::{
     Composite, Fault, Global, ListOf, Optional, Readable, Record, Required, RoundTripComposite,
@@ -7,14 +10,11 @@ use serde_amqp::derive::{
     ValueKind, built, composite_returns, fields, named, read_shaped,
 };
 
-/// What a [`SaslOutcome`] is read from.
 type SaslOutcomeFields = Required<SaslCode, Optional<ByteBuf, ()>>;
 
 type SaslOutcomeShape = ListOf<SaslOutcomeFields>;
 
 impl Record for SaslOutcome {
-    ghost use Rattle.serde_amqp.specs.Derive.{◌▸◌};
-
     type Values = <SaslOutcomeShape as Shape>::Value;
 
     ghost parts = { λ x. x.code ▸ x.additional_data ▸ tt };
@@ -25,9 +25,6 @@ impl Record for SaslOutcome {
 }
 
 impl Composite for SaslOutcome {
-    ghost use Rattle.std.specs.Prelude.{codes};
-    ghost use Rattle.serde_amqp.specs.Derive.{by_parts};
-
     ghost descriptor_code = { 0x44 };
 
     ghost descriptor_name = { codes "amqp:sasl-outcome:list" };
@@ -46,8 +43,6 @@ impl Composite for SaslOutcome {
 }
 
 impl Serialize for SaslOutcome {
-    ghost use Rattle.serde_amqp.specs.Derive.{after_code};
-
     ghost tree = { after_code 0x44 ⟦<SaslOutcomeShape as ShapeTree>⟧.tree
         ⟦<SaslOutcome as Record>⟧.parts };
 
@@ -65,9 +60,19 @@ impl RoundTripComposite for SaslOutcome {
     }
 }
 
+impl SaslOutcome {
+    /// Returns a value with these fields. The others are `None`.
+    pub fn new(code: SaslCode) -> SaslOutcome
+        ensures { ⟦<SaslOutcome as Record>⟧.parts result ≡ code ▸ None ▸ tt }
+    {
+        SaslOutcome {
+            code,
+            additional_data: None,
+        }
+    }
+}
+
 impl Readable for SaslCode {
-    ghost use Rattle.std.specs.Prelude.{ℕ};
-    ghost use Rattle.serde_amqp.specs.Derive.{scalar, ubyte, by_image};
     ghost use Rattle.amqp_types.specs.declared.sasl_outcome.SaslCode.TheVariants as variant;
 
     ghost laws = { by_image (λ x. scalar (ubyte (elim x as (λ _. ℕ) [
@@ -92,8 +97,6 @@ impl Readable for SaslCode {
 }
 
 impl Serialize for SaslCode {
-    ghost use Rattle.std.specs.Prelude.{Some};
-
     ghost tree = { λ x. Some (⟦<SaslCode as Readable>⟧.laws.image x) };
 
     fn serialize<S: Serializer>(&self, serializer: &mut S) -> Result<S::Ok, S::Error> {

@@ -1,5 +1,8 @@
 //! tools/derive wrote this file from session.rt: it is not edited by hand.
 
+ghost use Rattle.std.specs.Prelude.{◌≡◌, None, codes};
+ghost use Rattle.serde_amqp.specs.Derive.{value_or, ◌▸◌, by_parts, after_code};
+
 use super::{Begin, Multiple, OrderedMap, Symbol, Value};
 use serde_amqp::derive::{
     Composite, Fault, Global, ListOf, Optional, Record, Required, RoundTripComposite, Serialize,
@@ -7,7 +10,6 @@ use serde_amqp::derive::{
     named, read_shaped,
 };
 
-/// What a [`Begin`] is read from.
 type BeginFields = Optional<u16, Required<u32, Required<u32, Required<u32, BeginFields2>>>>;
 
 type BeginFields2 = Optional<u32, Optional<Multiple<Symbol>, BeginFields3>>;
@@ -17,8 +19,6 @@ type BeginFields3 = Optional<Multiple<Symbol>, Optional<OrderedMap<Symbol, Value
 type BeginShape = ListOf<BeginFields>;
 
 impl Record for Begin {
-    ghost use Rattle.serde_amqp.specs.Derive.{◌▸◌};
-
     type Values = <BeginShape as Shape>::Value;
 
     ghost parts = { λ x. x.remote_channel ▸ x.next_outgoing_id ▸ x.incoming_window ▸
@@ -34,9 +34,6 @@ impl Record for Begin {
 }
 
 impl Composite for Begin {
-    ghost use Rattle.std.specs.Prelude.{codes};
-    ghost use Rattle.serde_amqp.specs.Derive.{by_parts};
-
     ghost descriptor_code = { 0x11 };
 
     ghost descriptor_name = { codes "amqp:begin:list" };
@@ -58,8 +55,6 @@ impl Composite for Begin {
 }
 
 impl Serialize for Begin {
-    ghost use Rattle.serde_amqp.specs.Derive.{after_code};
-
     ghost tree = { after_code 0x11 ⟦<BeginShape as ShapeTree>⟧.tree ⟦<Begin as Record>⟧.parts };
 
     fn serialize<S: Serializer>(&self, serializer: &mut S) -> Result<S::Ok, S::Error> {
@@ -84,16 +79,27 @@ impl RoundTripComposite for Begin {
 }
 
 impl Begin {
-    ghost use Rattle.std.specs.Prelude.{◌≡◌};
-    ghost use Rattle.serde_amqp.specs.Derive.{value_or};
+    /// Returns a value with these fields. The others are `None`.
+    pub fn new(next_outgoing_id: u32, incoming_window: u32, outgoing_window: u32) -> Begin
+        ensures { ⟦<Begin as Record>⟧.parts result ≡ None ▸ next_outgoing_id ▸ incoming_window ▸
+            outgoing_window ▸ None ▸ None ▸ None ▸ None ▸ tt }
+    {
+        Begin {
+            remote_channel: None,
+            next_outgoing_id,
+            incoming_window,
+            outgoing_window,
+            handle_max: None,
+            offered_capabilities: None,
+            desired_capabilities: None,
+            properties: None,
+        }
+    }
 
     /// Returns `handle_max`, or `4294967295` if it is absent.
     pub fn handle_max_or_default(&self) -> u32
         ensures { result ≡ value_or 4294967295 self.now.handle_max }
     {
-        match self.handle_max {
-            Some(value) => value,
-            None => 4294967295,
-        }
+        self.handle_max.unwrap_or(4294967295)
     }
 }

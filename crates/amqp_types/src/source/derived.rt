@@ -1,5 +1,8 @@
 //! tools/derive wrote this file from source.rt: it is not edited by hand.
 
+ghost use Rattle.std.specs.Prelude.{◌≡◌, None, false, codes};
+ghost use Rattle.serde_amqp.specs.Derive.{value_or, ◌▸◌, by_parts, after_code};
+
 use super::{
     Address, DistributionMode, Multiple, OrderedMap, Outcome, Source, Symbol, TerminusDurability,
     TerminusExpiryPolicy, Value,
@@ -10,7 +13,6 @@ use serde_amqp::derive::{
     read_shaped,
 };
 
-/// What a [`Source`] is read from.
 type SourceFields = Optional<Address, Optional<TerminusDurability, SourceFields2>>;
 
 type SourceFields2 = Optional<TerminusExpiryPolicy, Optional<u32, Optional<bool, SourceFields3>>>;
@@ -26,8 +28,6 @@ type SourceFields6 = Optional<Multiple<Symbol>, Optional<Multiple<Symbol>, ()>>;
 type SourceShape = ListOf<SourceFields>;
 
 impl Record for Source {
-    ghost use Rattle.serde_amqp.specs.Derive.{◌▸◌};
-
     type Values = <SourceShape as Shape>::Value;
 
     ghost parts = { λ x. x.address ▸ x.durable ▸ x.expiry_policy ▸ x.timeout ▸ x.dynamic ▸
@@ -43,9 +43,6 @@ impl Record for Source {
 }
 
 impl Composite for Source {
-    ghost use Rattle.std.specs.Prelude.{codes};
-    ghost use Rattle.serde_amqp.specs.Derive.{by_parts};
-
     ghost descriptor_code = { 0x28 };
 
     ghost descriptor_name = { codes "amqp:source:list" };
@@ -71,8 +68,6 @@ impl Composite for Source {
 }
 
 impl Serialize for Source {
-    ghost use Rattle.serde_amqp.specs.Derive.{after_code};
-
     ghost tree = { after_code 0x28 ⟦<SourceShape as ShapeTree>⟧.tree ⟦<Source as Record>⟧.parts };
 
     fn serialize<S: Serializer>(&self, serializer: &mut S) -> Result<S::Ok, S::Error> {
@@ -98,26 +93,17 @@ impl RoundTripComposite for Source {
 }
 
 impl Source {
-    ghost use Rattle.std.specs.Prelude.{◌≡◌, false};
-    ghost use Rattle.serde_amqp.specs.Derive.{value_or};
-
     /// Returns `timeout`, or `0` if it is absent.
     pub fn timeout_or_default(&self) -> u32
         ensures { result ≡ value_or 0 self.now.timeout }
     {
-        match self.timeout {
-            Some(value) => value,
-            None => 0,
-        }
+        self.timeout.unwrap_or(0)
     }
 
     /// Returns `dynamic`, or `false` if it is absent.
     pub fn dynamic_or_default(&self) -> bool
         ensures { result ≡ value_or false self.now.dynamic }
     {
-        match self.dynamic {
-            Some(value) => value,
-            None => false,
-        }
+        self.dynamic.unwrap_or(false)
     }
 }

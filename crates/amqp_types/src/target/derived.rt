@@ -1,5 +1,8 @@
 //! tools/derive wrote this file from target.rt: it is not edited by hand.
 
+ghost use Rattle.std.specs.Prelude.{◌≡◌, None, false, codes};
+ghost use Rattle.serde_amqp.specs.Derive.{value_or, ◌▸◌, by_parts, after_code};
+
 use super::{
     Address, Multiple, OrderedMap, Symbol, Target, TerminusDurability, TerminusExpiryPolicy, Value,
 };
@@ -9,7 +12,6 @@ use serde_amqp::derive::{
     named, read_shaped,
 };
 
-/// What a [`Target`] is read from.
 type TargetFields = Optional<Address, Optional<TerminusDurability, TargetFields2>>;
 
 type TargetFields2 = Optional<TerminusExpiryPolicy, Optional<u32, Optional<bool, TargetFields3>>>;
@@ -21,8 +23,6 @@ type TargetFields4 = Optional<Multiple<Symbol>, ()>;
 type TargetShape = ListOf<TargetFields>;
 
 impl Record for Target {
-    ghost use Rattle.serde_amqp.specs.Derive.{◌▸◌};
-
     type Values = <TargetShape as Shape>::Value;
 
     ghost parts = { λ x. x.address ▸ x.durable ▸ x.expiry_policy ▸ x.timeout ▸ x.dynamic ▸
@@ -37,9 +37,6 @@ impl Record for Target {
 }
 
 impl Composite for Target {
-    ghost use Rattle.std.specs.Prelude.{codes};
-    ghost use Rattle.serde_amqp.specs.Derive.{by_parts};
-
     ghost descriptor_code = { 0x29 };
 
     ghost descriptor_name = { codes "amqp:target:list" };
@@ -61,8 +58,6 @@ impl Composite for Target {
 }
 
 impl Serialize for Target {
-    ghost use Rattle.serde_amqp.specs.Derive.{after_code};
-
     ghost tree = { after_code 0x29 ⟦<TargetShape as ShapeTree>⟧.tree ⟦<Target as Record>⟧.parts };
 
     fn serialize<S: Serializer>(&self, serializer: &mut S) -> Result<S::Ok, S::Error> {
@@ -86,26 +81,17 @@ impl RoundTripComposite for Target {
 }
 
 impl Target {
-    ghost use Rattle.std.specs.Prelude.{◌≡◌, false};
-    ghost use Rattle.serde_amqp.specs.Derive.{value_or};
-
     /// Returns `timeout`, or `0` if it is absent.
     pub fn timeout_or_default(&self) -> u32
         ensures { result ≡ value_or 0 self.now.timeout }
     {
-        match self.timeout {
-            Some(value) => value,
-            None => 0,
-        }
+        self.timeout.unwrap_or(0)
     }
 
     /// Returns `dynamic`, or `false` if it is absent.
     pub fn dynamic_or_default(&self) -> bool
         ensures { result ≡ value_or false self.now.dynamic }
     {
-        match self.dynamic {
-            Some(value) => value,
-            None => false,
-        }
+        self.dynamic.unwrap_or(false)
     }
 }

@@ -1,5 +1,8 @@
 //! tools/derive wrote this file from terminus.rt: it is not edited by hand.
 
+ghost use Rattle.std.specs.Prelude.{◌≡◌, Some, List, ℕ, codes};
+ghost use Rattle.serde_amqp.specs.Derive.{scalar, uint, symbol, by_image, by_text};
+
 use super::{DistributionMode, TerminusDurability, TerminusExpiryPolicy};
 use serde_amqp::derive::{
     Fault, Global, Name, Readable, RoundTripReadable, Serialize, Serializer, Source, ValueKind,
@@ -7,8 +10,6 @@ use serde_amqp::derive::{
 };
 
 impl Readable for TerminusDurability {
-    ghost use Rattle.std.specs.Prelude.{ℕ};
-    ghost use Rattle.serde_amqp.specs.Derive.{scalar, uint, by_image};
     ghost use Rattle.amqp_types.specs.declared.terminus.TerminusDurability.TheVariants as variant;
 
     ghost laws = { by_image (λ x. scalar (uint (elim x as (λ _. ℕ) [
@@ -32,8 +33,6 @@ impl Readable for TerminusDurability {
 }
 
 impl Serialize for TerminusDurability {
-    ghost use Rattle.std.specs.Prelude.{Some};
-
     ghost tree = { λ x. Some (⟦<TerminusDurability as Readable>⟧.laws.image x) };
 
     fn serialize<S: Serializer>(&self, serializer: &mut S) -> Result<S::Ok, S::Error> {
@@ -50,9 +49,6 @@ impl RoundTripReadable for TerminusDurability {
 }
 
 impl TerminusExpiryPolicy {
-    ghost use Rattle.std.specs.Prelude.{◌≡◌};
-    ghost use Rattle.serde_amqp.specs.Derive.{scalar, symbol};
-
     /// Returns the text of the value.
     pub fn as_str(&self) -> &'static str
         ensures { scalar (symbol result.now) ≡ ⟦<TerminusExpiryPolicy as Readable>⟧.laws.image
@@ -68,8 +64,6 @@ impl TerminusExpiryPolicy {
 }
 
 impl Readable for TerminusExpiryPolicy {
-    ghost use Rattle.std.specs.Prelude.{List, ℕ, codes};
-    ghost use Rattle.serde_amqp.specs.Derive.{by_text};
     ghost use Rattle.amqp_types.specs.declared.terminus.TerminusExpiryPolicy.TheVariants as variant;
 
     ghost laws = { by_text (λ x. elim x as (λ _. List ℕ) [
@@ -105,8 +99,6 @@ impl Readable for TerminusExpiryPolicy {
 }
 
 impl Serialize for TerminusExpiryPolicy {
-    ghost use Rattle.std.specs.Prelude.{Some};
-
     ghost tree = { λ x. Some (⟦<TerminusExpiryPolicy as Readable>⟧.laws.image x) };
 
     fn serialize<S: Serializer>(&self, serializer: &mut S) -> Result<S::Ok, S::Error> {
@@ -119,9 +111,6 @@ impl RoundTripReadable for TerminusExpiryPolicy {
 }
 
 impl DistributionMode {
-    ghost use Rattle.std.specs.Prelude.{◌≡◌};
-    ghost use Rattle.serde_amqp.specs.Derive.{scalar, symbol};
-
     /// Returns the text of the value.
     pub fn as_str(&self) -> &'static str
         ensures { scalar (symbol result.now) ≡ ⟦<DistributionMode as Readable>⟧.laws.image self.now }
@@ -134,8 +123,6 @@ impl DistributionMode {
 }
 
 impl Readable for DistributionMode {
-    ghost use Rattle.std.specs.Prelude.{List, ℕ, codes};
-    ghost use Rattle.serde_amqp.specs.Derive.{by_text};
     ghost use Rattle.amqp_types.specs.declared.terminus.DistributionMode.TheVariants as variant;
 
     ghost laws = { by_text (λ x. elim x as (λ _. List ℕ) [
@@ -163,8 +150,6 @@ impl Readable for DistributionMode {
 }
 
 impl Serialize for DistributionMode {
-    ghost use Rattle.std.specs.Prelude.{Some};
-
     ghost tree = { λ x. Some (⟦<DistributionMode as Readable>⟧.laws.image x) };
 
     fn serialize<S: Serializer>(&self, serializer: &mut S) -> Result<S::Ok, S::Error> {

@@ -1,13 +1,15 @@
 //! tools/derive wrote this file from transfer.rt: it is not edited by hand.
 
-use super::{ByteBuf, DeliveryState, ReceiverSettleMode, Transfer};
+ghost use Rattle.std.specs.Prelude.{◌≡◌, None, false, codes};
+ghost use Rattle.serde_amqp.specs.Derive.{value_or, ◌▸◌, by_parts, after_code};
+
+use super::{ByteBuf, DeliveryState, Disposition, ReceiverSettleMode, Role, Transfer};
 use serde_amqp::derive::{
     Composite, Fault, Global, ListOf, Optional, Record, Required, RoundTripComposite, Serialize,
     SerializeCompounds, Serializer, Shape, ShapeTree, Source, built, composite_returns, fields,
     named, read_shaped,
 };
 
-/// What a [`Transfer`] is read from.
 type TransferFields = Required<u32, Optional<u32, Optional<ByteBuf, TransferFields2>>>;
 
 type TransferFields2 = Optional<u32, Optional<bool, Optional<bool, TransferFields3>>>;
@@ -19,8 +21,6 @@ type TransferFields4 = Optional<bool, Optional<bool, Optional<bool, ()>>>;
 type TransferShape = ListOf<TransferFields>;
 
 impl Record for Transfer {
-    ghost use Rattle.serde_amqp.specs.Derive.{◌▸◌};
-
     type Values = <TransferShape as Shape>::Value;
 
     ghost parts = { λ x. x.handle ▸ x.delivery_id ▸ x.delivery_tag ▸ x.message_format ▸ x.settled ▸
@@ -35,9 +35,6 @@ impl Record for Transfer {
 }
 
 impl Composite for Transfer {
-    ghost use Rattle.std.specs.Prelude.{codes};
-    ghost use Rattle.serde_amqp.specs.Derive.{by_parts};
-
     ghost descriptor_code = { 0x14 };
 
     ghost descriptor_name = { codes "amqp:transfer:list" };
@@ -59,8 +56,6 @@ impl Composite for Transfer {
 }
 
 impl Serialize for Transfer {
-    ghost use Rattle.serde_amqp.specs.Derive.{after_code};
-
     ghost tree = { after_code 0x14 ⟦<TransferShape as ShapeTree>⟧.tree
         ⟦<Transfer as Record>⟧.parts };
 
@@ -85,46 +80,139 @@ impl RoundTripComposite for Transfer {
 }
 
 impl Transfer {
-    ghost use Rattle.std.specs.Prelude.{◌≡◌, false};
-    ghost use Rattle.serde_amqp.specs.Derive.{value_or};
+    /// Returns a value with these fields. The others are `None`.
+    pub fn new(handle: u32) -> Transfer
+        ensures { ⟦<Transfer as Record>⟧.parts result ≡ handle ▸ None ▸ None ▸ None ▸ None ▸ None ▸
+            None ▸ None ▸ None ▸ None ▸ None ▸ tt }
+    {
+        Transfer {
+            handle,
+            delivery_id: None,
+            delivery_tag: None,
+            message_format: None,
+            settled: None,
+            more: None,
+            rcv_settle_mode: None,
+            state: None,
+            resume: None,
+            aborted: None,
+            batchable: None,
+        }
+    }
 
     /// Returns `more`, or `false` if it is absent.
     pub fn more_or_default(&self) -> bool
         ensures { result ≡ value_or false self.now.more }
     {
-        match self.more {
-            Some(value) => value,
-            None => false,
-        }
+        self.more.unwrap_or(false)
     }
 
     /// Returns `resume`, or `false` if it is absent.
     pub fn resume_or_default(&self) -> bool
         ensures { result ≡ value_or false self.now.resume }
     {
-        match self.resume {
-            Some(value) => value,
-            None => false,
-        }
+        self.resume.unwrap_or(false)
     }
 
     /// Returns `aborted`, or `false` if it is absent.
     pub fn aborted_or_default(&self) -> bool
         ensures { result ≡ value_or false self.now.aborted }
     {
-        match self.aborted {
-            Some(value) => value,
-            None => false,
-        }
+        self.aborted.unwrap_or(false)
     }
 
     /// Returns `batchable`, or `false` if it is absent.
     pub fn batchable_or_default(&self) -> bool
         ensures { result ≡ value_or false self.now.batchable }
     {
-        match self.batchable {
-            Some(value) => value,
-            None => false,
+        self.batchable.unwrap_or(false)
+    }
+}
+
+type DispositionFields = Required<Role, Required<u32, Optional<u32, DispositionFields2>>>;
+
+type DispositionFields2 = Optional<bool, Optional<DeliveryState, DispositionFields3>>;
+
+type DispositionFields3 = Optional<bool, ()>;
+
+type DispositionShape = ListOf<DispositionFields>;
+
+impl Record for Disposition {
+    type Values = <DispositionShape as Shape>::Value;
+
+    ghost parts = { λ x. x.role ▸ x.first ▸ x.last ▸ x.settled ▸ x.state ▸ x.batchable ▸ tt };
+
+    fn from_parts(values: <DispositionShape as Shape>::Value) -> Disposition {
+        built! { values => Disposition { role, first, last, settled, state, batchable } }
+    }
+}
+
+impl Composite for Disposition {
+    ghost descriptor_code = { 0x15 };
+
+    ghost descriptor_name = { codes "amqp:disposition:list" };
+
+    ghost body = { by_parts ⟦<DispositionShape as Shape>⟧.laws ⟦<Disposition as Record>⟧.parts };
+
+    fn descriptor() -> (u64, &'static str) {
+        (0x15, "amqp:disposition:list")
+    }
+
+    #[inline(always)]
+    fn read_body<S: Source>(alloc: Global, source: S) -> Result<(Disposition, S::Rest), Fault> {
+        let fields = named! { "role", "first", "last"?, "settled"?, "state"?, "batchable"? };
+        read_shaped(alloc, source, ListOf(fields))
+    }
+}
+
+impl Serialize for Disposition {
+    ghost tree = { after_code 0x15 ⟦<DispositionShape as ShapeTree>⟧.tree
+        ⟦<Disposition as Record>⟧.parts };
+
+    fn serialize<S: Serializer>(&self, serializer: &mut S) -> Result<S::Ok, S::Error> {
+        serializer.serialize_described(
+            &0x15u64,
+            &ListOf(fields! {
+                "role": &self.role, "first": &self.first, "last"?: &self.last,
+                "settled"?: &self.settled, "state"?: &self.state, "batchable"?: &self.batchable
+            }),
+        )
+    }
+}
+
+impl RoundTripComposite for Disposition {
+    fn composite_law() {
+        composite_returns::<Disposition, DispositionShape>();
+    }
+}
+
+impl Disposition {
+    /// Returns a value with these fields. The others are `None`.
+    pub fn new(role: Role, first: u32) -> Disposition
+        ensures { ⟦<Disposition as Record>⟧.parts result ≡ role ▸ first ▸ None ▸ None ▸ None ▸ None
+            ▸ tt }
+    {
+        Disposition {
+            role,
+            first,
+            last: None,
+            settled: None,
+            state: None,
+            batchable: None,
         }
+    }
+
+    /// Returns `settled`, or `false` if it is absent.
+    pub fn settled_or_default(&self) -> bool
+        ensures { result ≡ value_or false self.now.settled }
+    {
+        self.settled.unwrap_or(false)
+    }
+
+    /// Returns `batchable`, or `false` if it is absent.
+    pub fn batchable_or_default(&self) -> bool
+        ensures { result ≡ value_or false self.now.batchable }
+    {
+        self.batchable.unwrap_or(false)
     }
 }

@@ -1,5 +1,8 @@
 //! tools/derive wrote this file from gust.rt: it is not edited by hand.
 
+ghost use Rattle.std.specs.Prelude.{◌≡◌, None};
+ghost use Rattle.serde_amqp.specs.Derive.{◌▸◌, by_parts, tree_by_parts};
+
 use super::Gust;
 use serde_amqp::derive::{
     AfterCode, Fault, Global, ListOf, Optional, Readable, Record, Required, RoundTripReadable,
@@ -7,14 +10,11 @@ use serde_amqp::derive::{
     parts_return, read_shaped,
 };
 
-/// What a [`Gust`] is read from.
 type GustFields = Required<u32, Optional<u16, Optional<u16, ()>>>;
 
 type GustShape = AfterCode<ListOf<GustFields>, 0x17>;
 
 impl Record for Gust {
-    ghost use Rattle.serde_amqp.specs.Derive.{◌▸◌};
-
     type Values = <GustShape as Shape>::Value;
 
     ghost parts = { λ x. x.speed ▸ x.from ▸ x.at ▸ tt };
@@ -25,8 +25,6 @@ impl Record for Gust {
 }
 
 impl Readable for Gust {
-    ghost use Rattle.serde_amqp.specs.Derive.{by_parts};
-
     ghost laws = { by_parts ⟦<GustShape as Shape>⟧.laws ⟦<Gust as Record>⟧.parts };
 
     #[inline(always)]
@@ -37,8 +35,6 @@ impl Readable for Gust {
 }
 
 impl Serialize for Gust {
-    ghost use Rattle.serde_amqp.specs.Derive.{tree_by_parts};
-
     ghost tree = { tree_by_parts ⟦<GustShape as ShapeTree>⟧.tree ⟦<Gust as Record>⟧.parts };
 
     fn serialize<S: Serializer>(&self, serializer: &mut S) -> Result<S::Ok, S::Error> {

@@ -1,5 +1,8 @@
 //! tools/derive wrote this file from hours.rt: it is not edited by hand.
 
+ghost use Rattle.std.specs.Prelude.{◌≡◌, None, false, codes};
+ghost use Rattle.serde_amqp.specs.Derive.{value_or, ◌▸◌, by_parts, tree_by_parts, after_code};
+
 use super::{Hour, Pressure, Series};
 use serde_amqp::derive::{
     AfterCode, Composite, Fault, Global, ListOf, Optional, Readable, Record, Required,
@@ -7,14 +10,11 @@ use serde_amqp::derive::{
     ShapeTree, Source, built, composite_returns, fields, named, parts_return, read_shaped,
 };
 
-/// What a [`Pressure`] is read from.
 type PressureFields = Required<u32, ()>;
 
 type PressureShape = AfterCode<ListOf<PressureFields>, 0x30>;
 
 impl Record for Pressure {
-    ghost use Rattle.serde_amqp.specs.Derive.{◌▸◌};
-
     type Values = <PressureShape as Shape>::Value;
 
     ghost parts = { λ x. x.pascals ▸ tt };
@@ -25,8 +25,6 @@ impl Record for Pressure {
 }
 
 impl Readable for Pressure {
-    ghost use Rattle.serde_amqp.specs.Derive.{by_parts};
-
     ghost laws = { by_parts ⟦<PressureShape as Shape>⟧.laws ⟦<Pressure as Record>⟧.parts };
 
     #[inline(always)]
@@ -37,8 +35,6 @@ impl Readable for Pressure {
 }
 
 impl Serialize for Pressure {
-    ghost use Rattle.serde_amqp.specs.Derive.{tree_by_parts};
-
     ghost tree = { tree_by_parts ⟦<PressureShape as ShapeTree>⟧.tree ⟦<Pressure as Record>⟧.parts };
 
     fn serialize<S: Serializer>(&self, serializer: &mut S) -> Result<S::Ok, S::Error> {
@@ -52,7 +48,6 @@ impl RoundTripReadable for Pressure {
     }
 }
 
-/// What a [`Hour`] is read from.
 type HourFields = Required<u32, Required<u16, Required<i32, Optional<u32, HourFields2>>>>;
 
 type HourFields2 = Optional<u8, Optional<bool, Optional<String, Optional<u16, HourFields3>>>>;
@@ -62,8 +57,6 @@ type HourFields3 = Optional<u32, ()>;
 type HourShape = ListOf<HourFields>;
 
 impl Record for Hour {
-    ghost use Rattle.serde_amqp.specs.Derive.{◌▸◌};
-
     type Values = <HourShape as Shape>::Value;
 
     ghost parts = { λ x. x.station ▸ x.hour ▸ x.temperature ▸ x.pressure ▸ x.humidity ▸ x.is_raining
@@ -78,9 +71,6 @@ impl Record for Hour {
 }
 
 impl Composite for Hour {
-    ghost use Rattle.std.specs.Prelude.{codes};
-    ghost use Rattle.serde_amqp.specs.Derive.{by_parts};
-
     ghost descriptor_code = { 0x31 };
 
     ghost descriptor_name = { codes "examples:hour" };
@@ -102,8 +92,6 @@ impl Composite for Hour {
 }
 
 impl Serialize for Hour {
-    ghost use Rattle.serde_amqp.specs.Derive.{after_code};
-
     ghost tree = { after_code 0x31 ⟦<HourShape as ShapeTree>⟧.tree ⟦<Hour as Record>⟧.parts };
 
     fn serialize<S: Serializer>(&self, serializer: &mut S) -> Result<S::Ok, S::Error> {
@@ -126,31 +114,21 @@ impl RoundTripComposite for Hour {
 }
 
 impl Hour {
-    ghost use Rattle.std.specs.Prelude.{◌≡◌, false};
-    ghost use Rattle.serde_amqp.specs.Derive.{value_or};
-
     /// Returns `humidity`, or `50` if it is absent.
     pub fn humidity_or_default(&self) -> u8
         ensures { result ≡ value_or 50 self.now.humidity }
     {
-        match self.humidity {
-            Some(value) => value,
-            None => 50,
-        }
+        self.humidity.unwrap_or(50)
     }
 
     /// Returns `is_raining`, or `false` if it is absent.
     pub fn is_raining_or_default(&self) -> bool
         ensures { result ≡ value_or false self.now.is_raining }
     {
-        match self.is_raining {
-            Some(value) => value,
-            None => false,
-        }
+        self.is_raining.unwrap_or(false)
     }
 }
 
-/// What a [`Series`] is read from.
 type SeriesFields = Required<u32, Required<u32, Required<String, Optional<u32, SeriesFields2>>>>;
 
 type SeriesFields2 = Optional<u64, Optional<bool, Optional<i8, Optional<u8, SeriesFields3>>>>;
@@ -164,8 +142,6 @@ type SeriesFields5 = Optional<String, Optional<u32, Optional<u32, Optional<u32, 
 type SeriesShape = AfterCode<ListOf<SeriesFields>, 0x32>;
 
 impl Record for Series {
-    ghost use Rattle.serde_amqp.specs.Derive.{◌▸◌};
-
     type Values = <SeriesShape as Shape>::Value;
 
     ghost parts = { λ x. x.r1 ▸ x.r2 ▸ x.r3 ▸ x.r4 ▸ x.r5 ▸ x.r6 ▸ x.r7 ▸ x.r8 ▸ x.r9 ▸ x.r10 ▸
@@ -180,8 +156,6 @@ impl Record for Series {
 }
 
 impl Readable for Series {
-    ghost use Rattle.serde_amqp.specs.Derive.{by_parts};
-
     ghost laws = { by_parts ⟦<SeriesShape as Shape>⟧.laws ⟦<Series as Record>⟧.parts };
 
     #[inline(always)]
@@ -195,8 +169,6 @@ impl Readable for Series {
 }
 
 impl Serialize for Series {
-    ghost use Rattle.serde_amqp.specs.Derive.{tree_by_parts};
-
     ghost tree = { tree_by_parts ⟦<SeriesShape as ShapeTree>⟧.tree ⟦<Series as Record>⟧.parts };
 
     fn serialize<S: Serializer>(&self, serializer: &mut S) -> Result<S::Ok, S::Error> {
@@ -220,26 +192,17 @@ impl RoundTripReadable for Series {
 }
 
 impl Series {
-    ghost use Rattle.std.specs.Prelude.{◌≡◌};
-    ghost use Rattle.serde_amqp.specs.Derive.{value_or};
-
     /// Returns `r8`, or `7` if it is absent.
     pub fn r8_or_default(&self) -> u8
         ensures { result ≡ value_or 7 self.now.r8 }
     {
-        match self.r8 {
-            Some(value) => value,
-            None => 7,
-        }
+        self.r8.unwrap_or(7)
     }
 
     /// Returns `r15`, or `7` if it is absent.
     pub fn r15_or_default(&self) -> u8
         ensures { result ≡ value_or 7 self.now.r15 }
     {
-        match self.r15 {
-            Some(value) => value,
-            None => 7,
-        }
+        self.r15.unwrap_or(7)
     }
 }

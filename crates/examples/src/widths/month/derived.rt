@@ -1,5 +1,8 @@
 //! tools/derive wrote this file from month.rt: it is not edited by hand.
 
+ghost use Rattle.std.specs.Prelude.{◌≡◌, None};
+ghost use Rattle.serde_amqp.specs.Derive.{value_or, ◌▸◌, by_parts, tree_by_parts};
+
 use super::Month;
 use serde_amqp::derive::{
     AfterCode, Fault, Global, ListOf, Optional, Readable, Record, Required, RoundTripReadable,
@@ -7,7 +10,6 @@ use serde_amqp::derive::{
     parts_return, read_shaped,
 };
 
-/// What a [`Month`] is read from.
 type MonthFields = Required<String, Required<u32, Required<u32, Required<u32, MonthFields2>>>>;
 
 type MonthFields2 = Required<u32, Required<u32, Required<u32, Required<u32, MonthFields3>>>>;
@@ -27,8 +29,6 @@ type MonthFields8 = Required<u32, Optional<u32, Optional<u32, Optional<u32, ()>>
 type MonthShape = AfterCode<ListOf<MonthFields>, 0x33>;
 
 impl Record for Month {
-    ghost use Rattle.serde_amqp.specs.Derive.{◌▸◌};
-
     type Values = <MonthShape as Shape>::Value;
 
     ghost parts = { λ x. x.station ▸ x.d1 ▸ x.d2 ▸ x.d3 ▸ x.d4 ▸ x.d5 ▸ x.d6 ▸ x.d7 ▸ x.d8 ▸ x.d9 ▸
@@ -45,8 +45,6 @@ impl Record for Month {
 }
 
 impl Readable for Month {
-    ghost use Rattle.serde_amqp.specs.Derive.{by_parts};
-
     ghost laws = { by_parts ⟦<MonthShape as Shape>⟧.laws ⟦<Month as Record>⟧.parts };
 
     #[inline(always)]
@@ -61,8 +59,6 @@ impl Readable for Month {
 }
 
 impl Serialize for Month {
-    ghost use Rattle.serde_amqp.specs.Derive.{tree_by_parts};
-
     ghost tree = { tree_by_parts ⟦<MonthShape as ShapeTree>⟧.tree ⟦<Month as Record>⟧.parts };
 
     fn serialize<S: Serializer>(&self, serializer: &mut S) -> Result<S::Ok, S::Error> {
@@ -89,16 +85,10 @@ impl RoundTripReadable for Month {
 }
 
 impl Month {
-    ghost use Rattle.std.specs.Prelude.{◌≡◌};
-    ghost use Rattle.serde_amqp.specs.Derive.{value_or};
-
     /// Returns `d29`, or `0` if it is absent.
     pub fn d29_or_default(&self) -> u32
         ensures { result ≡ value_or 0 self.now.d29 }
     {
-        match self.d29 {
-            Some(value) => value,
-            None => 0,
-        }
+        self.d29.unwrap_or(0)
     }
 }
