@@ -12,12 +12,14 @@ use Rattle.amqp_ser.specs.declared.kind.CompoundKind.TheVariants as kinds
 use Rattle.amqp_ser.specs.declared.marker.Marker.{Marker}
 use Rattle.amqp_ser.specs.declared.marker.Marker.TheVariants as marker
 use Rattle.amqp_ser.proofs.Joins.{join, joined, all_trees-append, kind_none}
-use Rattle.amqp_to_value.specs.ImageOf.{IsFault, refuses}
+use Rattle.amqp_to_value.specs.ImageOf.{IsFault, error_of, refuses}
 use Rattle.amqp_to_value.specs.Opened.{Opened, AreOpened, HasOpenedPairs, IsUnreadable}
 use Rattle.amqp_to_value.specs.PendingDescriptors.{under_descriptors}
 use Rattle.amqp_to_value.specs.PendingMarker.{as_descriptor, meant}
 use Rattle.amqp_to_value.specs.declared.pending_marker.PendingMarker.{PendingMarker}
 use Rattle.amqp_to_value.specs.declared.pending_marker.PendingMarker.TheVariants as pending
+use Rattle.amqp_to_value.specs.declared.value_error.ValueError.{ValueError}
+use Rattle.amqp_to_value.specs.declared.value_error.ValueError.TheVariants as value_error
 
 -- There is no tree, or a lazy tree in it spells no value.
 abbrev pub Lacks : Option Tree → Type 0
@@ -155,12 +157,12 @@ frame_lacks true bs h = h
 frame_lacks false bs h = tt
 
 -- The error for bytes that were not decoded is permitted.
-pub lazy_refused : (bs : List ℕ) (e r : Error) → (e ≡ error.OutOfMemory → r ≡ error.OutOfMemory) → ((e ≡ error.OutOfMemory → ⊥) → IsFault r)
-    → ((e ≡ error.OutOfMemory → ⊥) → (t : Tree) → Spells 256 bs t → ⊥) → refuses r (of_frame bs)
-lazy_refused bs error.OutOfMemory r memory fault none = subst (λ x. refuses x (of_frame bs)) (sym (memory refl)) tt
-lazy_refused bs error.InvalidValue r memory fault none = let no : error.InvalidValue ≡ error.OutOfMemory → ⊥ = λ e. cc in faulted r (of_frame bs) (fault no) (frame_lacks (is_frame bs) bs (none no))
-lazy_refused bs error.InvalidFormatCode r memory fault none = let no : error.InvalidFormatCode ≡ error.OutOfMemory → ⊥ = λ e. cc in faulted r (of_frame bs) (fault no) (frame_lacks (is_frame bs) bs (none no))
-lazy_refused bs error.UnexpectedEof r memory fault none = let no : error.UnexpectedEof ≡ error.OutOfMemory → ⊥ = λ e. cc in faulted r (of_frame bs) (fault no) (frame_lacks (is_frame bs) bs (none no))
-lazy_refused bs error.TooLong r memory fault none = let no : error.TooLong ≡ error.OutOfMemory → ⊥ = λ e. cc in faulted r (of_frame bs) (fault no) (frame_lacks (is_frame bs) bs (none no))
-lazy_refused bs error.Io r memory fault none = let no : error.Io ≡ error.OutOfMemory → ⊥ = λ e. cc in faulted r (of_frame bs) (fault no) (frame_lacks (is_frame bs) bs (none no))
-lazy_refused bs (error.Message w) r memory fault none = let no : error.Message w ≡ error.OutOfMemory → ⊥ = λ e. cc in faulted r (of_frame bs) (fault no) (frame_lacks (is_frame bs) bs (none no))
+pub lazy_refused : (bs : List ℕ) (e : Error) (r : ValueError) → (e ≡ error.OutOfMemory → r ≡ value_error.OutOfMemory) → ((e ≡ error.OutOfMemory → ⊥) → IsFault (error_of r))
+    → ((e ≡ error.OutOfMemory → ⊥) → (t : Tree) → Spells 256 bs t → ⊥) → refuses (error_of r) (of_frame bs)
+lazy_refused bs error.OutOfMemory r memory fault none = subst (λ x. refuses (error_of x) (of_frame bs)) (sym (memory refl)) tt
+lazy_refused bs error.InvalidValue r memory fault none = let no : error.InvalidValue ≡ error.OutOfMemory → ⊥ = λ e. cc in faulted (error_of r) (of_frame bs) (fault no) (frame_lacks (is_frame bs) bs (none no))
+lazy_refused bs error.InvalidFormatCode r memory fault none = let no : error.InvalidFormatCode ≡ error.OutOfMemory → ⊥ = λ e. cc in faulted (error_of r) (of_frame bs) (fault no) (frame_lacks (is_frame bs) bs (none no))
+lazy_refused bs error.UnexpectedEof r memory fault none = let no : error.UnexpectedEof ≡ error.OutOfMemory → ⊥ = λ e. cc in faulted (error_of r) (of_frame bs) (fault no) (frame_lacks (is_frame bs) bs (none no))
+lazy_refused bs error.TooLong r memory fault none = let no : error.TooLong ≡ error.OutOfMemory → ⊥ = λ e. cc in faulted (error_of r) (of_frame bs) (fault no) (frame_lacks (is_frame bs) bs (none no))
+lazy_refused bs error.Io r memory fault none = let no : error.Io ≡ error.OutOfMemory → ⊥ = λ e. cc in faulted (error_of r) (of_frame bs) (fault no) (frame_lacks (is_frame bs) bs (none no))
+lazy_refused bs (error.Message w) r memory fault none = let no : error.Message w ≡ error.OutOfMemory → ⊥ = λ e. cc in faulted (error_of r) (of_frame bs) (fault no) (frame_lacks (is_frame bs) bs (none no))

@@ -1,7 +1,6 @@
 -- The contents of an open compound after one part more or one part less.
 use Rattle.std.proofs.Common.{◌≡◌, List, [], ◌∷◌, ◌++◌, Option, Some, None, Result, ok_or, false, true, true≢false, refl, ap, sym, ◌∙◌, subst}
 use Rattle.amqp_data.specs.declared.error.Error.{Error}
-use Rattle.amqp_data.specs.declared.error.Error.TheVariants as error
 use Rattle.amqp_ser.specs.Tree.{Descriptor, Tree, Trees, Pairs, null, scalar, no_trees, more}
 use Rattle.amqp_ser.specs.Compounds.{all_trees, prepend, complete, in_pairs, as_kind, tree_of_parts, paired}
 use Rattle.amqp_ser.specs.declared.kind.CompoundKind.{CompoundKind}
@@ -12,7 +11,7 @@ use Rattle.amqp_ser.proofs.Unmarked.{unmarked}
 use Rattle.amqp_value.specs.Image.{image}
 use Rattle.amqp_value.specs.TreeOf.{tree_of}
 use Rattle.amqp_value.specs.declared.value.Value.{Value}
-use Rattle.amqp_to_value.specs.ImageOf.{refuses, StandsFor, IsImageOf}
+use Rattle.amqp_to_value.specs.ImageOf.{refuses, StandsFor, Answers}
 use Rattle.amqp_to_value.specs.PendingMarker.{meant}
 use Rattle.amqp_to_value.specs.HeldImages.{is_single, then, HoldsImages, IsOpenedImage, compound_tree, TakesPairs}
 use Rattle.amqp_to_value.specs.Opened.{AreOpened}
@@ -24,6 +23,8 @@ use Rattle.amqp_to_value.specs.declared.open_value.OpenBody.TheVariants as body
 use Rattle.amqp_to_value.specs.declared.parts.CollectedParts.{CollectedParts}
 use Rattle.amqp_to_value.specs.declared.parts.CollectedParts.TheVariants as parts
 use Rattle.amqp_to_value.specs.declared.serializer.Serializer.{Serializer}
+use Rattle.amqp_to_value.specs.declared.value_error.ValueError.{ValueError}
+use Rattle.amqp_to_value.specs.declared.value_error.ValueError.TheVariants as error
 use Rattle.amqp_to_value.proofs.PendingDescriptorLemmas.{standing_none}
 use Rattle.amqp_to_value.proofs.HeldImagesLemmas.{join_then, all_trees-then}
 use Rattle.amqp_to_value.proofs.LazyLemmas.{Lacks, part_lacks, spoils}
@@ -34,9 +35,9 @@ none-some t q = cc
 
 -- If nothing is pending, a result that is permitted for the intended tree is permitted for the
 -- tree.
-pub plain_answer : (s : Serializer) (ds : List Descriptor) (p : Option Tree) (r : Result Value Error) → IsKept ds s → IsImageOf (meant_by s p) r → IsImageOf p r
+pub plain_answer : (s : Serializer) (ds : List Descriptor) (p : Option Tree) (r : Result Value ValueError) → IsKept ds s → Answers (meant_by s p) r → Answers p r
 plain_answer s ds p r kept is =
-    subst (λ o. IsImageOf o r) (ap (λ ds. described_by ds (meant s.pending p)) (standing_none s.descriptors kept.0.1) ∙ ap (λ u. meant u p) kept.0.0 ∙ unmarked p) is
+    subst (λ o. Answers o r) (ap (λ ds. described_by ds (meant s.pending p)) (standing_none s.descriptors kept.0.1) ∙ ap (λ u. meant u p) kept.0.0 ∙ unmarked p) is
 
 joined_none : (o : Option Trees) → joined o None ≡ None
 joined_none None = refl
@@ -127,26 +128,26 @@ undone u old new ps p h even makes back =
     }
 
 -- The value of a single compound.
-single_answer : (u : PendingMarker) (o : Option Value) (r : Result Value Error) (ps : List (Option Tree)) → HasValue u o ps → complete kinds.Single ps ≡ true → r ≡ ok_or o error.InvalidValue
-    → IsImageOf (meant u (tree_of_parts kinds.Single ps)) r
+single_answer : (u : PendingMarker) (o : Option Value) (r : Result Value ValueError) (ps : List (Option Tree)) → HasValue u o ps → complete kinds.Single ps ≡ true → r ≡ ok_or o error.InvalidValue
+    → Answers (meant u (tree_of_parts kinds.Single ps)) r
 unfolding tree_of_parts
 single_answer u None r [] h c e = absurd (true≢false (sym c))
 single_answer u None r (p ∷ ps) h c e = absurd h
 single_answer u (Some v) r [] h c e = absurd h
 single_answer u (Some v) r (None ∷ []) h c e = absurd (subst (StandsFor v) (meant_none u) h)
-single_answer u (Some v) r (Some t ∷ []) h c e = subst (IsImageOf (meant u (Some t))) (sym e) h
+single_answer u (Some v) r (Some t ∷ []) h c e = subst (Answers (meant u (Some t))) (sym e) h
 single_answer u (Some v) r (p ∷ (q ∷ ps)) h c e = absurd h
 
-pub single_value : (u w : PendingMarker) (k : CompoundKind) (o : Option Value) (r : Result Value Error) (ps : List (Option Tree)) → HasParts u k (body.Single w o) ps → complete k ps ≡ true
-    → r ≡ ok_or o error.InvalidValue → IsImageOf (meant u (tree_of_parts k ps)) r
+pub single_value : (u w : PendingMarker) (k : CompoundKind) (o : Option Value) (r : Result Value ValueError) (ps : List (Option Tree)) → HasParts u k (body.Single w o) ps → complete k ps ≡ true
+    → r ≡ ok_or o error.InvalidValue → Answers (meant u (tree_of_parts k ps)) r
 single_value u w k o r ps h c e =
-    subst (λ x. IsImageOf (meant u (tree_of_parts x ps)) r) (sym h.0)
+    subst (λ x. Answers (meant u (tree_of_parts x ps)) r) (sym h.0)
     (single_answer u o r ps h.2 (subst (λ x. complete x ps ≡ true) h.0 c) e)
 
 -- The value of a compound that is built from parts.
-pub parts_value : (u : PendingMarker) (k : CompoundKind) (parts : CollectedParts) (r : Result Value Error) (ps : List (Option Tree)) → HoldsParts u k parts ps
-    → ((ts : Trees) → HoldsImages parts ts → IsOpenedImage (compound_tree parts (Some ts)) r) → IsImageOf (meant u (tree_of_parts k ps)) r
+pub parts_value : (u : PendingMarker) (k : CompoundKind) (parts : CollectedParts) (r : Result Value ValueError) (ps : List (Option Tree)) → HoldsParts u k parts ps
+    → ((ts : Trees) → HoldsImages parts ts → IsOpenedImage (compound_tree parts (Some ts)) r) → Answers (meant u (tree_of_parts k ps)) r
 unfolding tree_of_parts
 parts_value u k parts r ps h gives =
-    subst (λ o. IsImageOf o r) (sym (h.makes (Some h.ts)) ∙ ap (λ o. meant u (as_kind k o)) (sym h.trees))
+    subst (λ o. Answers o r) (sym (h.makes (Some h.ts)) ∙ ap (λ o. meant u (as_kind k o)) (sym h.trees))
     (opened_answer (compound_tree parts (Some h.ts)) (compound_tree parts (Some h.us)) r (compound_opened parts h.ts h.us h.opened) (gives h.us h.fed))

@@ -8,5 +8,3 @@ pub mod ImageOf
 pub mod PendingMarker
 pub mod HeldImages
 pub mod ValueSerializer
-pub mod OpenCompounds
-pub mod OpenStructs

@@ -1,7 +1,6 @@
 -- The results that are permitted for the value serializer, and the contents of its open compounds.
 use Rattle.std.specs.Prelude.{◌≡◌, ◌≤◌, false, List, [], ◌∷◌, ◌++◌, length, Option, Some, None, Result, Ok, Err}
 use Rattle.std.proofs.Common.{refl, ap, ◌∙◌, subst}
-use Rattle.amqp_data.specs.declared.error.Error.{Error}
 use Rattle.amqp_ser.specs.Composites.{as_described}
 use Rattle.amqp_ser.specs.Tree.{Descriptor, Tree, Trees}
 use Rattle.amqp_ser.specs.Compounds.{all_trees, as_kind}
@@ -10,7 +9,7 @@ use Rattle.amqp_ser.specs.declared.kind.CompoundKind.TheVariants as kind
 use Rattle.amqp_ser.specs.declared.marker.Marker.TheVariants as marker
 use Rattle.amqp_value.specs.declared.value.Value.{Value}
 use Rattle.amqp_to_value.specs.PendingDescriptors.{saved_of, described_by, standing}
-use Rattle.amqp_to_value.specs.ImageOf.{IsImageOf, StandsFor}
+use Rattle.amqp_to_value.specs.ImageOf.{Answers, StandsFor}
 use Rattle.amqp_to_value.specs.Opened.{AreOpened}
 use Rattle.amqp_to_value.specs.PendingMarker.{meant}
 use Rattle.amqp_to_value.specs.HeldImages.{HoldsImages, is_single, compound_tree}
@@ -21,6 +20,7 @@ use Rattle.amqp_to_value.specs.declared.open_value.OpenBody.{OpenBody}
 use Rattle.amqp_to_value.specs.declared.open_value.OpenBody.TheVariants as body
 use Rattle.amqp_to_value.specs.declared.parts.CollectedParts.{CollectedParts}
 use Rattle.amqp_to_value.specs.declared.serializer.Serializer.{Serializer}
+use Rattle.amqp_to_value.specs.declared.value_error.ValueError.{ValueError}
 
 -- No marker and no descriptor is pending.
 abbrev pub IsFresh : Serializer → Type 0
@@ -44,12 +44,12 @@ IsLeft ds s = (more : List Descriptor) × (s.descriptors.later ≡ ds ++ more)
 
 -- The kept descriptors are unchanged. A value uses its own descriptors and leaves their capacity,
 -- and an error leaves the descriptors.
-abbrev pub Leaves : List Descriptor → List Descriptor → Result Value Error → Serializer → Type 0
+abbrev pub Leaves : List Descriptor → List Descriptor → Result Value ValueError → Serializer → Type 0
 Leaves others own (Ok v) s = IsKept others s × (length (others ++ own) ≤ s.descriptors.room)
 Leaves others own (Err e) s = IsKept others s × IsLeft own s
 
-abbrev pub ValuePermits : Serializer → Option Tree → Result Value Error → Serializer → Type 0
-ValuePermits s t r after = IsImageOf (meant_by s t) r × Leaves s.descriptors.kept (standing s.descriptors) r after
+abbrev pub ValuePermits : Serializer → Option Tree → Result Value ValueError → Serializer → Type 0
+ValuePermits s t r after = Answers (meant_by s t) r × Leaves s.descriptors.kept (standing s.descriptors) r after
 
 -- An open compound that contains these parts.
 pub record HoldsParts (pending : PendingMarker) (kind : CompoundKind) (compound : CollectedParts) (ps : List (Option Tree)) : Type 0 where

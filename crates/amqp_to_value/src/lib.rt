@@ -21,6 +21,7 @@ mod pending_descriptors;
 mod pending_marker;
 mod scalars;
 mod serializer;
+mod value_error;
 
 pub use compounds::{
     MapSerializer, SeqSerializer, StructSerializer, StructSerializerKind, StructVariantSerializer,
@@ -28,3 +29,4 @@ pub use compounds::{
 };
 pub use image::{TryFromSerializable, to_value};
 pub use serializer::Serializer;
+pub use value_error::ValueError;

@@ -7,7 +7,7 @@ ghost use Rattle.amqp_ser.specs.Tree.{Descriptor, Tree};
 ghost use Rattle.amqp_ser.specs.declared.kind.CompoundKind.{CompoundKind};
 ghost use Rattle.amqp_ser.specs.declared.kind.CompoundKind.TheVariants as kind;
 ghost use Rattle.amqp_to_value.specs.ValueSerializer.{HasParts};
-ghost use Rattle.amqp_to_value.specs.ImageOf.{IsImageOf};
+ghost use Rattle.amqp_to_value.specs.ImageOf.{Answers};
 ghost use Rattle.amqp_to_value.specs.PendingMarker.{meant};
 ghost use Rattle.amqp_to_value.specs.declared.pending_marker.PendingMarker.{PendingMarker};
 
@@ -15,7 +15,7 @@ use crate::next_capacity::NextCapacity;
 use crate::parts::CollectedParts;
 use crate::pending_descriptors::Saved;
 use crate::pending_marker::PendingMarker;
-use amqp_data::Error;
+use crate::value_error::ValueError;
 use amqp_ser::CompoundKind;
 use amqp_value::Value;
 use std::alloc::Global;
@@ -77,16 +77,16 @@ impl OpenBody {
     /// Returns the value of the compound.
     ///
     /// # Errors
-    /// Returns `Error::InvalidValue` if the parts do not form a value, and `Error::OutOfMemory` if
-    /// an allocation fails.
+    /// Returns `InvalidValue` if the parts do not form a value, and `OutOfMemory` if an allocation
+    /// fails.
     #[inline(always)]
-    pub fn into_value(self, alloc: Global, capacity: &mut NextCapacity) -> Result<Value, Error>
+    pub fn into_value(self, alloc: Global, capacity: &mut NextCapacity) -> Result<Value, ValueError>
         ensures { (pending : PendingMarker) (kind : CompoundKind) (ps : List (Option Tree)) →
             HasParts pending kind self ps → complete kind ps ≡ true →
-            IsImageOf (meant pending (tree_of_parts kind ps)) result }
+            Answers (meant pending (tree_of_parts kind ps)) result }
     {
         match self {
-            OpenBody::Single(_, value) => value.ok_or(Error::InvalidValue),
+            OpenBody::Single(_, value) => value.ok_or(ValueError::InvalidValue),
             OpenBody::CollectedParts(parts) => parts.into_value(alloc, capacity),
         }
     }

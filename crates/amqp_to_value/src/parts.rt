@@ -11,7 +11,8 @@ ghost use Rattle.amqp_to_value.specs.PendingMarker.{meant};
 use crate::next_capacity::NextCapacity;
 use crate::open_map::OpenMap;
 use crate::pending_marker::PendingMarker;
-use amqp_data::{Array, Error, OrderedMap};
+use crate::value_error::ValueError;
+use amqp_data::{Array, OrderedMap};
 use amqp_ser::{CompoundKind, Marker};
 use amqp_value::Value;
 use std::alloc::{AllocError, Global};
@@ -106,10 +107,10 @@ impl CollectedParts {
     /// Returns the value of the compound.
     ///
     /// # Errors
-    /// Returns `Error::InvalidValue` if the parts do not form a value, and `Error::OutOfMemory` if
-    /// an allocation fails.
+    /// Returns `InvalidValue` if the parts do not form a value, and `OutOfMemory` if an allocation
+    /// fails.
     #[inline(always)]
-    pub fn into_value(self, alloc: Global, capacity: &mut NextCapacity) -> Result<Value, Error>
+    pub fn into_value(self, alloc: Global, capacity: &mut NextCapacity) -> Result<Value, ValueError>
         ensures { (ts : Trees) → HoldsImages self ts →
             IsOpenedImage (compound_tree self (Some ts)) result }
     {
@@ -125,7 +126,7 @@ impl CollectedParts {
     // Returns the value of the compound. Never inlined: lists, which are the most frequent, have a
     // shorter path.
     #[inline(never)]
-    fn into_other(self, alloc: Global, capacity: &mut NextCapacity) -> Result<Value, Error>
+    fn into_other(self, alloc: Global, capacity: &mut NextCapacity) -> Result<Value, ValueError>
         ensures { (ts : Trees) → HoldsImages self ts →
             IsOpenedImage (compound_tree self (Some ts)) result }
     {
@@ -137,9 +138,9 @@ impl CollectedParts {
             CollectedParts::Variant(index, items) => variant(alloc, index, Value::List(items)),
             CollectedParts::NewtypeVariant(index, items) => match only(items) {
                 Some(payload) => variant(alloc, index, payload),
-                None => Err(Error::InvalidValue),
+                None => Err(ValueError::InvalidValue),
             },
-            CollectedParts::Refused => Err(Error::InvalidValue),
+            CollectedParts::Refused => Err(ValueError::InvalidValue),
         }
     }
 }
@@ -196,10 +197,10 @@ fn only(mut items: Vec<Value>) -> Option<Value>
 
 // Returns the map of one entry that represents a variant.
 #[inline(never)]
-fn variant(alloc: Global, index: u32, payload: Value) -> Result<Value, Error>
+fn variant(alloc: Global, index: u32, payload: Value) -> Result<Value, ValueError>
     ensures { MatchResult result
         (λ v. tree_of v ≡ variant_map index (tree_of payload))
-        (λ e. e ≡ Error.OutOfMemory) }
+        (λ e. e ≡ ValueError.OutOfMemory) }
 {
     let mut pairs = Vec::new(alloc);
     pairs.push((Value::Uint(index), payload))?;
