@@ -9,11 +9,11 @@ use Rattle.amqp_ser.specs.declared.marker.Marker.TheVariants as marker
 use Rattle.amqp_value.specs.TreeOf.{tree_of}
 use Rattle.amqp_value.specs.declared.value.Value.{Value}
 use Rattle.amqp_to_value.specs.PendingDescriptors.{DescriptorsState, under_descriptors, described_by, standing}
-use Rattle.amqp_to_value.specs.ValueSerializer.{IsSaved, IsFresh, IsKept, Leaves, described_none, meant_by, meant_none, ValuePermits}
+use Rattle.amqp_to_value.specs.ValueSerializer.{IsSaved, IsFresh, IsKept, Leaves, described_none, meant_by, ValuePermits}
 use Rattle.amqp_to_value.specs.ImageOf.{error_of, refuses, StandsFor}
-use Rattle.amqp_to_value.specs.PendingMarker.{meant}
+use Rattle.amqp_ser.specs.Meant.{meant, meant_none}
 use Rattle.amqp_to_value.specs.declared.next_capacity.NextCapacity.{NextCapacity}
-use Rattle.amqp_to_value.specs.declared.pending_marker.PendingMarker.TheVariants as pending
+use Rattle.amqp_ser.specs.declared.pending.Pending.TheVariants as pending
 use Rattle.amqp_to_value.specs.declared.serializer.Serializer.{Serializer}
 use Rattle.amqp_to_value.specs.declared.value_error.ValueError.{ValueError}
 use Rattle.amqp_to_value.proofs.PendingDescriptorLemmas.{refuses_in, standing_left, stands_in}

@@ -11,8 +11,8 @@ use Rattle.amqp_value.specs.declared.value.Value.{Value}
 use Rattle.amqp_to_value.specs.PendingDescriptors.{described_by, standing}
 use Rattle.amqp_to_value.specs.ValueSerializer.{IsKeepingDescriptor, Leaves, meant_by, ValuePermits}
 use Rattle.amqp_to_value.specs.ImageOf.{refuses, StandsFor, Answers}
-use Rattle.amqp_to_value.specs.PendingMarker.{as_descriptor, meant}
-use Rattle.amqp_to_value.specs.declared.pending_marker.PendingMarker.{PendingMarker}
+use Rattle.amqp_ser.specs.Meant.{as_descriptor, meant}
+use Rattle.amqp_ser.specs.declared.pending.Pending.{Pending}
 use Rattle.amqp_to_value.specs.declared.serializer.Serializer.{Serializer}
 use Rattle.amqp_to_value.specs.declared.value_error.ValueError.{ValueError}
 use Rattle.amqp_to_value.proofs.AnswerLemmas.{none_refused, none_too}
@@ -69,7 +69,7 @@ leaves-prefix others own d (Err e) s k = (k.0, ((d ∷ []) ++ k.1.0, k.1.1 ∙ a
 
 -- A result that is permitted after one more descriptor is permitted for the described value before
 -- it.
-pub permitted_before : (start : Serializer) (inner : PendingMarker) (x : Descriptor) (d t : Option Tree) (r : Result Value ValueError) (after : Serializer) → descriptor_of d ≡ Some x
+pub permitted_before : (start : Serializer) (inner : Pending) (x : Descriptor) (d t : Option Tree) (r : Result Value ValueError) (after : Serializer) → descriptor_of d ≡ Some x
     → as_described (Some x) (meant inner t) ≡ meant start.pending (as_described (Some x) t)
     → ValuePermits (record { alloc = start.alloc; pending = inner; descriptors = record { kept = start.descriptors.kept; later = standing start.descriptors ++ (x ∷ []); next = true; room = 0 }; capacity = start.capacity }) t r after
     → ValuePermits start (as_described (descriptor_of d) t) r after

@@ -15,9 +15,9 @@ use Rattle.amqp_ser.proofs.Joins.{join, joined, all_trees-append, kind_none}
 use Rattle.amqp_to_value.specs.ImageOf.{IsFault, error_of, refuses}
 use Rattle.amqp_to_value.specs.Opened.{Opened, AreOpened, HasOpenedPairs, IsUnreadable}
 use Rattle.amqp_to_value.specs.PendingDescriptors.{under_descriptors}
-use Rattle.amqp_to_value.specs.PendingMarker.{as_descriptor, meant}
-use Rattle.amqp_to_value.specs.declared.pending_marker.PendingMarker.{PendingMarker}
-use Rattle.amqp_to_value.specs.declared.pending_marker.PendingMarker.TheVariants as pending
+use Rattle.amqp_ser.specs.Meant.{as_descriptor, meant}
+use Rattle.amqp_ser.specs.declared.pending.Pending.{Pending}
+use Rattle.amqp_ser.specs.declared.pending.Pending.TheVariants as pending
 use Rattle.amqp_to_value.specs.declared.value_error.ValueError.{ValueError}
 use Rattle.amqp_to_value.specs.declared.value_error.ValueError.TheVariants as value_error
 
@@ -136,7 +136,7 @@ descriptor_lacks (variant i t) h = tt
 descriptor_lacks (lazy bs) h = tt
 descriptor_lacks (transparent ts) h = tt
 
-pub meant_lacks : (u : PendingMarker) (o : Option Tree) → Lacks o → Lacks (meant u o)
+pub meant_lacks : (u : Pending) (o : Option Tree) → Lacks o → Lacks (meant u o)
 meant_lacks pending.Nothing o h = tt
 meant_lacks pending.Descriptor None h = tt
 meant_lacks pending.Descriptor (Some t) h = descriptor_lacks t h
@@ -144,7 +144,7 @@ meant_lacks (pending.Marker m) None h = tt
 meant_lacks (pending.Marker m) (Some t) h = marked_lacks m t h
 
 -- A compound is unreadable if a part is.
-pub part_lacks : (u : PendingMarker) (k : CompoundKind) (ps : List (Option Tree)) (t : Tree) (rest : List (Option Tree))
+pub part_lacks : (u : Pending) (k : CompoundKind) (ps : List (Option Tree)) (t : Tree) (rest : List (Option Tree))
     → IsUnreadable t → Lacks (meant u (tree_of_parts k (ps ++ (Some t ∷ rest))))
 unfolding tree_of_parts
 part_lacks u k ps t rest h =

@@ -11,9 +11,9 @@ use Rattle.amqp_to_value.specs.PendingDescriptors.{under_descriptors, described_
 use Rattle.amqp_to_value.specs.ValueSerializer.{HasParts, IsSaved, IsFresh, IsReady, Leaves, meant_by, ValuePermits}
 use Rattle.amqp_to_value.specs.ImageOf.{error_of, refuses, StandsFor}
 use Rattle.amqp_to_value.specs.Opened.{Opened}
-use Rattle.amqp_to_value.specs.PendingMarker.{meant}
-use Rattle.amqp_to_value.specs.declared.pending_marker.PendingMarker.{PendingMarker}
-use Rattle.amqp_to_value.specs.declared.pending_marker.PendingMarker.TheVariants as pending
+use Rattle.amqp_ser.specs.Meant.{meant}
+use Rattle.amqp_ser.specs.declared.pending.Pending.{Pending}
+use Rattle.amqp_ser.specs.declared.pending.Pending.TheVariants as pending
 use Rattle.amqp_to_value.specs.declared.open_value.OpenBody.{OpenBody}
 use Rattle.amqp_to_value.specs.declared.open_value.OpenBody.TheVariants as body
 use Rattle.amqp_to_value.specs.declared.serializer.Serializer.{Serializer}
@@ -24,7 +24,7 @@ use Rattle.amqp_to_value.proofs.AnswerLemmas.{single_refused, kept_on, parted_ag
 use Rattle.amqp_to_value.proofs.ValueSerializerLemmas.{plain_answer, refused}
 
 -- The intended tree of a single compound before its value.
-same_meant : (start before : Serializer) (u : PendingMarker) (p : Option Tree) → IsReady start before (body.Single u None) → meant_by before p ≡ meant_by start p
+same_meant : (start before : Serializer) (u : Pending) (p : Option Tree) → IsReady start before (body.Single u None) → meant_by before p ≡ meant_by start p
 same_meant start before u p ready = λ i. described_by (ready.2 i) (meant (ready.0 i) p)
 
 refusal : (start before : Serializer) (k : CompoundKind) (b : OpenBody) (ps : List (Option Tree)) (p : Option Tree) (e : ValueError) → HasParts start.pending k b ps → IsReady start before b
@@ -53,7 +53,7 @@ pub part_refused : (start before after : Serializer) (k : CompoundKind) (b : Ope
 part_refused start before after k b ps p e h ready r saved = (saved, λ rest. (refusal start before k b ps p e h ready r rest, saved))
 
 -- After a second value of a single compound, `InvalidValue` is permitted for the compound.
-pub second_part : (start after : Serializer) (k : CompoundKind) (u : PendingMarker) (v : Value) (ps : List (Option Tree)) (p : Option Tree) → HasParts start.pending k (body.Single u (Some v)) ps
+pub second_part : (start after : Serializer) (k : CompoundKind) (u : Pending) (v : Value) (ps : List (Option Tree)) (p : Option Tree) → HasParts start.pending k (body.Single u (Some v)) ps
     → IsSaved start after → IsSaved start after × ((rest : List (Option Tree)) → ValuePermits start (tree_of_parts k (ps ++ (p ∷ rest))) (Err error.InvalidValue) after)
 second_part start after k u v [] p h saved = absurd h.2
 second_part start after k u v (q ∷ []) p h saved =
@@ -72,7 +72,7 @@ pub record Stood (start after : Serializer) (p : Option Tree) (v : Value) : Type
   pub within : tree_of v ≡ under_descriptors (standing start.descriptors) (image read)
   pub means : meant start.pending p ≡ Some tree
 
-pub stands : (start before after : Serializer) (u : PendingMarker) (p : Option Tree) (v : Value) → IsReady start before (body.Single u None) → ValuePermits before p (Ok v) after → Stood start after p v
+pub stands : (start before after : Serializer) (u : Pending) (p : Option Tree) (v : Value) → IsReady start before (body.Single u None) → ValuePermits before p (Ok v) after → Stood start after p v
 stands start before after u p v ready r =
     let s = stood (standing start.descriptors) (meant start.pending p) v (subst (StandsFor v) (same_meant start before u p ready) r.0) in
     record {
@@ -86,7 +86,7 @@ stands start before after u p v ready r =
       means = s.2;
     }
 
-pub single_taken : (start after : Serializer) (k : CompoundKind) (u : PendingMarker) (v : Value) (ps : List (Option Tree)) (p : Option Tree) (t w : Tree) → HasParts start.pending k (body.Single u None) ps
+pub single_taken : (start after : Serializer) (k : CompoundKind) (u : Pending) (v : Value) (ps : List (Option Tree)) (p : Option Tree) (t w : Tree) → HasParts start.pending k (body.Single u None) ps
     → meant start.pending p ≡ Some t → Opened t w → after.pending ≡ pending.Marker marker.Other → (tree_of v ≡ image w) × (after.descriptors.kept ≡ start.descriptors.kept) × (after.descriptors.later ≡ standing start.descriptors) × (after.descriptors.next ≡ false)
     → HasParts start.pending k (body.Single u (Some v)) (ps ++ (p ∷ [])) × IsSaved start after
 single_taken start after k u v [] p t w h m o fresh is = ((h.0, h.1, subst (StandsFor v) (sym m) (w, o, is.0)), (((fresh, is.3), is.1), ([], is.2 ∙ sym (append-nil _))))

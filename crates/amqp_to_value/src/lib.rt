@@ -18,7 +18,6 @@ mod open_map;
 mod open_value;
 mod parts;
 mod pending_descriptors;
-mod pending_marker;
 mod scalars;
 mod serializer;
 mod value_error;

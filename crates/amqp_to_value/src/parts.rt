@@ -6,14 +6,13 @@ ghost use Rattle.amqp_ser.specs.Compounds.{as_kind, in_pairs};
 ghost use Rattle.amqp_value.specs.Image.{image, variant_map};
 ghost use Rattle.amqp_value.specs.TreeOf.{tree_of};
 ghost use Rattle.amqp_to_value.specs.HeldImages.{HoldsImages, is_single, compound_tree, then, TakesPairs, IsOpenedImage};
-ghost use Rattle.amqp_to_value.specs.PendingMarker.{meant};
+ghost use Rattle.amqp_ser.specs.Meant.{meant};
 
 use crate::next_capacity::NextCapacity;
 use crate::open_map::OpenMap;
-use crate::pending_marker::PendingMarker;
 use crate::value_error::ValueError;
 use amqp_data::{Array, OrderedMap};
-use amqp_ser::{CompoundKind, Marker};
+use amqp_ser::{CompoundKind, Marker, Pending};
 use amqp_value::Value;
 use std::alloc::{AllocError, Global};
 
@@ -40,26 +39,26 @@ impl CollectedParts {
     /// Returns the empty parts of a compound of this kind, other than `CompoundKind::Single`, under
     /// a marker.
     #[inline(always)]
-    pub fn new(alloc: Global, pending: PendingMarker, kind: CompoundKind) -> CollectedParts
+    pub fn new(alloc: Global, pending: Pending, kind: CompoundKind) -> CollectedParts
         ensures makes { is_single kind ≡ false → (o : Option Trees) →
             meant pending (as_kind kind o) ≡ compound_tree result o }
         ensures empty { HoldsImages result no_trees }
     {
         match (pending, kind) {
-            (PendingMarker::Marker(Marker::Other), CompoundKind::List) => CollectedParts::List(
-                Vec::new(alloc),
-            ),
-            (PendingMarker::Marker(Marker::Other), CompoundKind::Map) => CollectedParts::Map(
-                OpenMap::new(alloc),
-            ),
-            (PendingMarker::Marker(Marker::Other), CompoundKind::Variant(index)) =>
+            (Pending::Marker(Marker::Other), CompoundKind::List) => CollectedParts::List(Vec::new(
+                alloc,
+            )),
+            (Pending::Marker(Marker::Other), CompoundKind::Map) => CollectedParts::Map(OpenMap::new(
+                alloc,
+            )),
+            (Pending::Marker(Marker::Other), CompoundKind::Variant(index)) =>
                 CollectedParts::Variant(index, Vec::new(alloc)),
-            (PendingMarker::Marker(Marker::Other), CompoundKind::NewtypeVariant(index)) =>
+            (Pending::Marker(Marker::Other), CompoundKind::NewtypeVariant(index)) =>
                 CollectedParts::NewtypeVariant(index, Vec::new(alloc)),
-            (PendingMarker::Marker(Marker::Array), CompoundKind::List) => CollectedParts::Array(
-                Vec::new(alloc),
-            ),
-            (PendingMarker::Marker(Marker::Transparent), CompoundKind::List) =>
+            (Pending::Marker(Marker::Array), CompoundKind::List) => CollectedParts::Array(Vec::new(
+                alloc,
+            )),
+            (Pending::Marker(Marker::Transparent), CompoundKind::List) =>
                 CollectedParts::Transparent(Vec::new(alloc)),
             _ => CollectedParts::Refused,
         }

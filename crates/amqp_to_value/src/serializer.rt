@@ -5,16 +5,15 @@ ghost use Rattle.amqp_ser.specs.Tree.{Tree};
 ghost use Rattle.amqp_to_value.specs.PendingDescriptors.{standing};
 ghost use Rattle.amqp_to_value.specs.ValueSerializer.{IsFresh, ValuePermits};
 ghost use Rattle.amqp_to_value.specs.ImageOf.{Answers};
-ghost use Rattle.amqp_to_value.specs.PendingMarker.{meant};
+ghost use Rattle.amqp_ser.specs.Meant.{meant};
 
 use crate::next_capacity::NextCapacity;
 use crate::open_value::{OpenBody, OpenValue, set_first};
 use crate::parts::let_go;
 use crate::pending_descriptors::PendingDescriptors;
-use crate::pending_marker::PendingMarker;
 use crate::scalars::{descriptor_from, marked_bytes, marked_fixed, marked_text};
 use crate::value_error::ValueError;
-use amqp_ser::{CompoundKind, Fixed, Marker};
+use amqp_ser::{CompoundKind, Fixed, Marker, Pending};
 use amqp_value::Value;
 use std::alloc::Global;
 use std::mem;
@@ -33,7 +32,7 @@ use std::mem;
 #[derive(Drop)]
 pub struct Serializer {
     alloc: Global,
-    pending: PendingMarker,
+    pending: Pending,
     descriptors: PendingDescriptors,
     capacity: NextCapacity,
 }
@@ -49,7 +48,7 @@ impl Serializer {
     {
         Serializer {
             alloc,
-            pending: PendingMarker::Marker(Marker::Other),
+            pending: Pending::Marker(Marker::Other),
             descriptors: PendingDescriptors::new(alloc),
             capacity: NextCapacity::new(),
         }
@@ -57,12 +56,12 @@ impl Serializer {
 
     // Returns the pending marker of the next tree, and clears it.
     #[inline(always)]
-    fn take_pending(&mut self) -> PendingMarker
+    fn take_pending(&mut self) -> Pending
         ensures pending { result ≡ self.old.pending }
-        ensures none { self.new.pending ≡ PendingMarker.Marker Marker.Other }
+        ensures none { self.new.pending ≡ Pending.Marker Marker.Other }
         ensures descriptors { self.new.descriptors ≡ self.old.descriptors }
     {
-        mem::replace(&mut self.pending, PendingMarker::Marker(Marker::Other))
+        mem::replace(&mut self.pending, Pending::Marker(Marker::Other))
     }
 
     // Returns the value inside its pending descriptors. On an error, leaves them in the stack.
@@ -71,7 +70,7 @@ impl Serializer {
         ensures { (start : Serializer) (t : Option Tree) →
             self.old.descriptors.kept ≡ start.descriptors.kept →
             standing self.old.descriptors ≡ standing start.descriptors →
-            self.old.pending ≡ PendingMarker.Marker Marker.Other →
+            self.old.pending ≡ Pending.Marker Marker.Other →
             Answers (meant start.pending t) answer →
             ValuePermits start t result self.new }
     {
@@ -214,7 +213,7 @@ impl amqp_ser::Serializer for Serializer {
 
     #[inline(always)]
     fn begin_descriptor(&mut self, compound: &mut OpenValue) {
-        self.pending = PendingMarker::Descriptor;
+        self.pending = Pending::Descriptor;
         self.descriptors.keep(compound.saved);
     }
 

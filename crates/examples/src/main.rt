@@ -8,7 +8,7 @@
 //! - `message`, `room`: the sections of a message, and a value that is written only if it fits.
 //! - `ranges`: an untyped value that is encoded and decoded again.
 //! - `filter`: a filter by a property. It depends on the public contracts of `amqp_value` alone.
-//! - `counter`, `pending_marker`: the serializer, which counts the nodes of a tree.
+//! - `counter`: the serializer, which counts the nodes of a tree.
 //! - `weather`: the program of `docs/GETTING_STARTED.md`.
 //! - `widths`: structs of one to 32 fields.
 #![tactic(auto)]
@@ -16,7 +16,6 @@
 mod counter;
 mod filter;
 mod message;
-mod pending_marker;
 mod ranges;
 mod room;
 mod weather;

@@ -1,7 +1,7 @@
 use Rattle.std.proofs.Common.{subst}
 use Rattle.amqp_to_value.specs.PendingDescriptors.{standing}
 use Rattle.amqp_to_value.specs.ImageOf.{Answers}
-use Rattle.amqp_to_value.specs.PendingMarker.{meant}
+use Rattle.amqp_ser.specs.Meant.{meant}
 use Rattle.amqp_to_value.proofs.AnswerLemmas.{finished, finished_not}
 use Rattle.amqp_to_value.proofs.serializer.Serializer.finish.Goals as goal
 

@@ -2,7 +2,7 @@ use Rattle.std.proofs.Common.{Some, ap, subst}
 use Rattle.amqp_ser.specs.Tree.{scalar, binary}
 use Rattle.amqp_to_value.specs.PendingDescriptors.{standing}
 use Rattle.amqp_to_value.specs.ImageOf.{Answers}
-use Rattle.amqp_to_value.specs.PendingMarker.{meant}
+use Rattle.amqp_ser.specs.Meant.{meant}
 use Rattle.amqp_to_value.proofs.serializer.SerializerSerializer.serialize_bytes.Goals as goal
 
 pub returns : goal.returns

@@ -3,7 +3,7 @@ use Rattle.amqp_ser.specs.Fixed.{fixed_scalar}
 use Rattle.amqp_ser.specs.Tree.{scalar}
 use Rattle.amqp_to_value.specs.PendingDescriptors.{standing}
 use Rattle.amqp_to_value.specs.ImageOf.{Answers}
-use Rattle.amqp_to_value.specs.PendingMarker.{meant}
+use Rattle.amqp_ser.specs.Meant.{meant}
 use Rattle.amqp_to_value.proofs.ScalarLemmas.{fixed_answer}
 use Rattle.amqp_to_value.proofs.serializer.SerializerSerializer.serialize_fixed.Goals as goal
 

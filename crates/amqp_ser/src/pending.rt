@@ -1,16 +1,21 @@
-//! The requirement on the next tree, which is the state of the search.
+//! What precedes the next tree: its marker, or that it is a descriptor.
 
 ghost use Rattle.std.specs.Prelude.{◌≡◌, ℕ, List, Option, Some, is_some};
 ghost use Rattle.amqp_ser.specs.Composites.{as_described};
 ghost use Rattle.amqp_ser.specs.Fixed.{fixed_scalar};
 ghost use Rattle.amqp_ser.specs.Marked.{with_marker};
 ghost use Rattle.amqp_ser.specs.Tree.{Descriptor, Tree, scalar, string, binary};
-ghost use Rattle.amqp_wire.specs.Pending.{fits, meant};
+ghost use Rattle.amqp_ser.specs.Meant.{fits, meant};
 
+use crate::fixed::Fixed;
+use crate::kind::CompoundKind;
+use crate::marker::Marker;
 use amqp_frame::is_frame;
-use amqp_ser::{CompoundKind, Fixed, Marker};
 
-/// A requirement on the next tree.
+/// What a serializer keeps of the calls before the next tree: the requirement on this tree.
+///
+/// # Example
+/// `Marker(Symbol)` of the string `a` is the symbol `a`; of a number there is no tree.
 #[derive(Clone, Copy)]
 pub enum Pending {
     /// The tree is valid under this marker. `Marker::Other` is no marker.
@@ -24,6 +29,7 @@ pub enum Pending {
 impl Pending {
     /// Adds a marker inside this requirement: the result requires of a tree what `self` requires of
     /// the marked tree.
+    #[inline(always)]
     pub fn with_marker(self, marker: Marker) -> Pending
         ensures { (t : Option Tree) → meant result t ≡ meant self (with_marker marker t) }
     {
@@ -31,12 +37,13 @@ impl Pending {
             (pending, Marker::Other) => pending,
             (Pending::Marker(Marker::Other), marker) => Pending::Marker(marker),
             (Pending::Descriptor, Marker::Symbol) => Pending::Marker(Marker::Symbol),
-            _ => Pending::Nothing,
+            (_, _) => Pending::Nothing,
         }
     }
 
     /// Adds a descriptor inside this requirement: a described value is valid only without a marker,
     /// and is no descriptor.
+    #[inline(always)]
     pub fn with_descriptor(self) -> Pending
         ensures { (d : Descriptor) (t : Option Tree) →
             as_described (Some d) (meant result t) ≡ meant self (as_described (Some d) t) }
@@ -48,6 +55,7 @@ impl Pending {
     }
 
     /// Returns whether null or this scalar is valid.
+    #[inline(always)]
     pub fn takes_fixed(self, fixed: Fixed) -> bool
         ensures { result ≡ is_some (meant self (Some (scalar (fixed_scalar fixed)))) }
     {
@@ -60,6 +68,7 @@ impl Pending {
     }
 
     /// Returns whether a string is valid.
+    #[inline(always)]
     pub fn takes_str(self) -> bool
         ensures { (bs : List ℕ) → result ≡ is_some (meant self (Some (scalar (string bs)))) }
     {
@@ -67,6 +76,7 @@ impl Pending {
     }
 
     /// Returns whether this binary is valid.
+    #[inline(always)]
     pub fn takes_bytes(self, bytes: &[u8]) -> bool
         ensures { result ≡ is_some (meant self (Some (scalar (binary bytes.now)))) }
     {
@@ -82,6 +92,7 @@ impl Pending {
 
     /// Returns whether a compound of this kind is valid. A single one always is: the requirement
     /// applies to its one value.
+    #[inline(always)]
     pub fn takes(self, kind: CompoundKind) -> bool
         ensures { result ≡ fits kind self }
     {
