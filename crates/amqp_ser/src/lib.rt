@@ -5,10 +5,9 @@
 //! serializing a value is the serializer's result for the tree of the value. This crate defines the
 //! traits, the compounds and the trees of Rust's own types. It does not write bytes.
 //!
-//! A serializer that declares compounds of its own, which are not generic, builds them from
-//! `feed_part`, `feed_entry`, `feed_descriptor`, `feed_single`, `feed_any`,
-//! `feed_tuple_field`, `open_body` and `end_fields`: each is one step of a compound, for any
-//! serializer and its open compound.
+//! `Pending` is what a serializer keeps before the next tree. `feed_part`, `feed_entry`,
+//! `feed_descriptor`, `feed_single`, `feed_any`, `feed_tuple_field`, `open_body` and `end_fields`
+//! are the steps of compounds, for any serializer and its open compound.
 #![tactic(auto)]
 
 mod calls;
