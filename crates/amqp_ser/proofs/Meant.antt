@@ -3,7 +3,7 @@ use Rattle.std.proofs.Common.{◌≡◌, ℕ, List, [], ◌∷◌, Option, Some,
 use Rattle.amqp_ser.specs.Composites.{descriptor_of}
 use Rattle.amqp_ser.specs.Compounds.{all_trees, prepend, as_kind, as_map, as_variant, in_pairs, only, tree_of_parts, complete}
 use Rattle.amqp_ser.specs.Meant.{as_descriptor, fits, meant, meant_none, meant_parts}
-use Rattle.amqp_ser.specs.Tree.{Descriptor, Tree, Trees, Pairs, code, list, name, scalar, symbol, ulong, variant, no_trees, more}
+use Rattle.amqp_ser.specs.Tree.{Descriptor, Scalar, Tree, Trees, Pairs, code, list, name, scalar, symbol, ulong, variant, no_trees, more}
 use Rattle.amqp_ser.specs.declared.kind.CompoundKind.{CompoundKind}
 use Rattle.amqp_ser.specs.declared.kind.CompoundKind.TheVariants as kinds
 use Rattle.amqp_ser.specs.declared.marker.Marker.TheVariants as marker
@@ -19,11 +19,16 @@ pub joined_none : (o : Option Trees) → joined o None ≡ None
 joined_none None = refl
 joined_none (Some ts) = refl
 
+scalar_there : (s : Scalar) (t : Tree) → as_descriptor (Some (scalar s)) ≡ Some t → (d : Descriptor) × (descriptor_of (Some (scalar s)) ≡ Some d)
+scalar_there (ulong n) t e = (code n, refl)
+scalar_there (symbol bs) t e = (name bs, refl)
+scalar_there s t e = cc
+
 -- A tree that is valid as a descriptor is one.
 pub descriptor_there : (p : Option Tree) (t : Tree) → as_descriptor p ≡ Some t → (d : Descriptor) × (descriptor_of p ≡ Some d)
-descriptor_there (Some (scalar (ulong n))) t e = (code n, refl)
-descriptor_there (Some (scalar (symbol bs))) t e = (name bs, refl)
-descriptor_there p t e = cc
+descriptor_there None t e = cc
+descriptor_there (Some (scalar s)) t e = scalar_there s t e
+descriptor_there (Some u) t e = cc
 
 first_single : (u : Pending) (t : Tree) (m : Option Tree) (o : Option Trees) → m ≡ meant u (Some t) → as_kind kinds.Single (prepend m o) ≡ meant u (as_kind kinds.Single (prepend (Some t) o))
 first_single u t None None e = sym (meant_none u)

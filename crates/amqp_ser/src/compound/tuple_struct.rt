@@ -16,17 +16,9 @@ use crate::struct_encoding::StructEncoding;
 
 /// Serializes a field, or the descriptor, of a tuple struct: of one whose body is a single field,
 /// that lacks its descriptor, or that has a field or is a list that has been open from the start.
-///
-/// # Errors
-/// Returns the serializer's error for the field or the descriptor. Always returns an error if the
-/// descriptor is neither a ulong nor a symbol. Returns a misuse error for a second field of a
-/// single value. The compound is then unchanged.
-///
-/// # Example
-/// `true` appends `41` to a list that has been open from the start.
 #[tactic(auto, unfolding(crate::specs::Structs::Stands))]
 #[inline(always)]
-pub fn feed_tuple_field<S: Serializer, T: Serialize>(
+pub(crate) fn feed_tuple_field<S: Serializer, T: Serialize>(
     serializer: &mut S,
     compound: &mut S::Open,
     single: bool,

@@ -16,14 +16,14 @@ described_from d None (Err e) h = h
 described_from d (Some t) (Ok b) h = h
 described_from d (Some t) (Err e) h = h
 
-found : (o : Option Tree) (b : Bool) → Finds {E = NoTree} o (Ok b) → (t : Tree) × (o ≡ Some t)
-found None b h = absurd h
-found (Some t) b h = (t, refl)
+tree_of_found : (o : Option Tree) (b : Bool) → Finds {E = NoTree} o (Ok b) → (t : Tree) × (o ≡ Some t)
+tree_of_found None b h = absurd h
+tree_of_found (Some t) b h = (t, refl)
 
 pub returns-in-Ok-clause-step : goal.returns-in-Ok-clause-step
 returns-in-Ok-clause-step c = λ start before p h given.
     let finds = subst (λ (f : Finder). Finds {E = NoTree} (meant f.pending p) c.args.part) h.1 given.0 in
-    let valid = found (as_descriptor p) c.in-Ok.field-0 (subst (Finds {E = NoTree} (meant pending.Descriptor p)) c.in-Ok.is finds) in
+    let valid = tree_of_found (as_descriptor p) c.in-Ok.field-0 (subst (Finds {E = NoTree} (meant pending.Descriptor p)) c.in-Ok.is finds) in
     let there = descriptor_there p valid.0 valid.1 in
     let inner = c.with_descriptor-compound.result in (
       record { pending = inner },
