@@ -32,8 +32,8 @@ abbrev pub meant_parts : CompoundKind → Pending → List (Option Tree) → Lis
 meant_parts kinds.Single u (p ∷ ps) = meant u p ∷ ps
 meant_parts k u ps = ps
 
--- A compound of this kind is valid: a single one always, any kind without a marker, and a list under
--- the markers of lists.
+-- A compound of this kind is valid: a single one always, any kind without a marker, and a list
+-- under the markers of lists.
 abbrev pub fits : CompoundKind → Pending → Bool
 fits kinds.Single u = true
 fits k (pending.Marker marker.Other) = true

@@ -30,8 +30,8 @@ Undescribed (context.Plain Descriptor) n e = e ≡ error.InvalidValue
 Undescribed (context.Plain p) n e = (e ≡ error.TooLong) × (18446744073709551615 < prefix_len_of p + (n + 1))
 Undescribed u n e = ⊥
 
--- A part of this size is added, and `after` is the context after it; or it fails, and the compound is
--- unchanged.
+-- A part of this size is added, and `after` is the context after it; or it fails, and the compound
+-- is unchanged.
 pub record AddsPart (compound new : OpenCompound) (size : ℕ) (after : Context) (res : Result (Unit {0}) SizeError) : Type 0 where
   pub position : new.position ≡ compound.position
   pub resolved_kind : new.resolved_kind ≡ compound.resolved_kind
