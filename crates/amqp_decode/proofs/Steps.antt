@@ -51,21 +51,13 @@ item-zero zero c s e = by_content (content_at (category (code_of c)) s)
     by_content (Some p) = refl
 
 module _ (d : ℕ) (c : EncodingCodes) (s content rest : List ℕ) where
-  pub item-ok : (r : Result Value Error) → 0 < d → content_at (category (code_of c)) s ≡ Some (content, rest)
-      → IfOk r (λ v. content_of (parse (d - 1)) (parse_content (d - 1)) c content ≡ Some (tree_of v))
-      → IfOk r (λ v. payload_in (parse_content d) c s ≡ Some (tree_of v, rest))
-  item-ok (Ok v) lt e h = rw (e, parse_content-at d c content lt, h) refl
-  item-ok (Err f) lt e h = tt
+  pub item-found-in : 0 < d → content_at (category (code_of c)) s ≡ Some (content, rest)
+      → (t : Tree) → content_of (parse (d - 1)) (parse_content (d - 1)) c content ≡ Some t → payload_in (parse_content d) c s ≡ Some (t, rest)
+  item-found-in lt e t h = rw (e, parse_content-at d c content lt, h) refl
 
-  item-none : 0 < d → content_at (category (code_of c)) s ≡ Some (content, rest)
+  pub item-none : 0 < d → content_at (category (code_of c)) s ≡ Some (content, rest)
       → content_of (parse (d - 1)) (parse_content (d - 1)) c content ≡ None → payload_in (parse_content d) c s ≡ None
   item-none lt e h = rw (e, parse_content-at d c content lt, h) refl
-
-  pub item-err : (r : Result Value Error) → 0 < d → content_at (category (code_of c)) s ≡ Some (content, rest)
-      → IfErr r (λ e. (e ≡ OutOfMemory → ⊥) → (e ≡ TooLong → ⊥) → content_of (parse (d - 1)) (parse_content (d - 1)) c content ≡ None)
-      → IfErr r (λ e. (e ≡ OutOfMemory → ⊥) → (e ≡ TooLong → ⊥) → payload_in (parse_content d) c s ≡ None)
-  item-err (Ok v) lt e h = tt
-  item-err (Err f) lt e h = λ other short. item-none lt e (h other short)
 
 -- A scalar that `read_fixed` found is the value of the payload.
 pub not-zero : (n : ℕ) → (n ≡ 0 → ⊥) → (n == 0) ≡ false
@@ -89,19 +81,11 @@ item-found d c s r lt some found = item-fixed d c s r lt some (found (parse (d -
 
 -- The payload after the byte of a primitive code.
 module _ (f : FrameReader) (h : ContentReader) (b : ℕ) (c : EncodingCodes) (s : List ℕ) where
-  after-byte : b ≡ code_of c → IsTrue (is_primitive c) → frame_in f h (b ∷ s) ≡ payload_in (content_of f h) c s
+  pub after-byte : b ≡ code_of c → IsTrue (is_primitive c) → frame_in f h (b ∷ s) ≡ payload_in (content_of f h) c s
   after-byte is ok = rw (is, primitive-nonzero c ok, primitive-found c ok) refl
 
-  pub byte-ok : (r : Result Value Error) (rest : List ℕ) → b ≡ code_of c → IsTrue (is_primitive c)
-      → IfOk r (λ v. payload_in (content_of f h) c s ≡ Some (tree_of v, rest)) → IfOk r (λ v. frame_in f h (b ∷ s) ≡ Some (tree_of v, rest))
-  byte-ok (Ok v) rest is ok e = after-byte is ok ∙ e
-  byte-ok (Err g) rest is ok e = tt
-
-  pub byte-err : (r : Result Value Error) → b ≡ code_of c → IsTrue (is_primitive c)
-      → IfErr r (λ e. (e ≡ OutOfMemory → ⊥) → (e ≡ TooLong → ⊥) → payload_in (content_of f h) c s ≡ None)
-      → IfErr r (λ e. (e ≡ OutOfMemory → ⊥) → (e ≡ TooLong → ⊥) → frame_in f h (b ∷ s) ≡ None)
-  byte-err (Ok v) is ok e = tt
-  byte-err (Err g) is ok e = λ other short. after-byte is ok ∙ e other short
+  pub after-code : (b ≡ 0 → ⊥) → primitive_of b ≡ Some c → frame_in f h (b ∷ s) ≡ payload_in (content_of f h) c s
+  after-code some is = rw (not-zero b some, is) refl
 
 pub trees-push : (vs : List Value) (v : Value) → map tree_of (vs ++ v ∷ []) ≡ map tree_of vs ++ tree_of v ∷ []
 trees-push [] v = refl

@@ -8,7 +8,7 @@ pub mod Depth
 pub mod WithoutBytes
 pub mod Faults
 pub mod Places
-pub mod SpotAt
+pub mod Failing
 pub mod Located
 -- Definitions that contracts of reading without an untyped value use, and contracts of private
 -- functions, with those eight, and that WithoutBytes rests on.

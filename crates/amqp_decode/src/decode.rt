@@ -1,13 +1,16 @@
 //! Decodes one encoded value.
 
-ghost use Rattle.std.specs.Prelude.{◌≡◌, ◌≤◌, ◌<◌, IfOk, IfErr};
+ghost use Rattle.std.specs.Prelude.{◌≡◌, ◌≤◌, ◌<◌, IfOk, IfErr, None};
 ghost use Rattle.amqp_data.specs.declared.error.Error.TheVariants.{OutOfMemory, TooLong};
 ghost use Rattle.amqp_ser.specs.Tree.{Tree};
 ghost use Rattle.amqp_value.specs.TreeOf.{tree_of};
 ghost use Rattle.amqp_decode.specs.Spells.{Spells};
 ghost use Rattle.amqp_decode.specs.WithoutBytes.{IsExceeded, IsWithin, elements_without_bytes};
+ghost use Rattle.amqp_decode.specs.Failing.{IsAt, IsBuilt, without_place};
 ghost use Rattle.amqp_decode.specs.Faults.{DecodeFails, FailsBy, decode_fault};
+ghost use Rattle.amqp_decode.specs.Places.{decode_spot};
 
+use crate::failure::Failure;
 use crate::read::read_encoded_value;
 use amqp_data::Error;
 use amqp_value::Value;
@@ -105,12 +108,38 @@ pub fn decode_value_to_depth(
         (t : Tree) → ¬ Spells depth bytes.now t) }
     ensures fault { FailsBy (decode_fault depth bytes.now) result }
 {
+    match decode(Some(alloc), bytes, elements, depth) {
+        Ok(value) => Ok(value),
+        Err(failure) => Err(failure.error),
+    }
+}
+
+/// Like `decode_value_to_depth`, with the place of the fault. Without an allocator, the value is only
+/// checked.
+#[inline(always)]
+pub(crate) fn decode(
+    alloc: Option<Global>,
+    bytes: &[u8],
+    elements: Option<u32>,
+    depth: u16,
+) -> Result<Value, Failure>
+    ensures ok { IfOk result (λ v. IsBuilt alloc (tree_of v) (Spells depth bytes.now)) }
+    ensures within { IfOk result (λ v. IsWithin elements (elements_without_bytes depth bytes.now)) }
+    ensures too_long { IfErr result (λ e. e.error ≡ TooLong →
+        IsExceeded elements (elements_without_bytes depth bytes.now)) }
+    ensures err { IfErr result (λ e. ¬ (e.error ≡ OutOfMemory) → ¬ (e.error ≡ TooLong) →
+        (t : Tree) → ¬ Spells depth bytes.now t) }
+    ensures fault { FailsBy (decode_fault depth bytes.now) (without_place result) }
+    ensures spot { IfErr result (λ e. ¬ (e.error ≡ OutOfMemory) → ¬ (e.error ≡ TooLong) →
+        IsAt (decode_spot depth bytes.now) e) }
+    ensures checked { alloc ≡ None → IfErr result (λ e. ¬ (e.error ≡ OutOfMemory)) }
+{
     let mut rest = bytes;
     let mut limit = elements;
     let value = read_encoded_value(alloc, &mut rest, depth, &mut limit, bytes.len())?;
     if rest.is_empty() {
         Ok(value)
     } else {
-        Err(Error::InvalidValue)
+        Err(Failure::at(Error::InvalidValue, rest.len(), u32::from(depth)))
     }
 }

@@ -7,6 +7,8 @@
 #![tactic(auto)]
 
 mod decode;
+mod descriptor;
+mod failure;
 mod fixed;
 pub mod laws;
 mod limit;
@@ -19,8 +21,6 @@ mod read;
 mod reserve;
 mod run;
 mod scalar;
-mod scalar_check;
-mod skip;
 
 pub use decode::{decode_value, decode_value_limited, decode_value_to_depth};
 pub use located::{

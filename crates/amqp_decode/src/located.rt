@@ -4,13 +4,15 @@ ghost use Rattle.std.specs.Prelude.{◌≡◌, ◌≤◌, ◌<◌, ◌⊎◌, If
 ghost use Rattle.amqp_data.specs.declared.error.Error.TheVariants.{OutOfMemory, TooLong};
 ghost use Rattle.amqp_ser.specs.Tree.{Tree};
 ghost use Rattle.amqp_value.specs.TreeOf.{tree_of};
+ghost use Rattle.amqp_decode.specs.Failing.{IsAt};
 ghost use Rattle.amqp_decode.specs.Faults.{DecodeFails, decode_fault};
 ghost use Rattle.amqp_decode.specs.Located.{IsPlace, IsPlaced};
+ghost use Rattle.amqp_decode.specs.Places.{decode_spot};
 ghost use Rattle.amqp_decode.specs.Spells.{Spells};
 ghost use Rattle.amqp_decode.specs.WithoutBytes.{elements_without_bytes};
 
-use crate::decode::{decode_value, decode_value_limited};
-use crate::skip::check_values;
+use crate::decode::decode;
+use crate::failure::Failure;
 use amqp_data::Error;
 use amqp_value::Value;
 use std::alloc::Global;
@@ -35,8 +37,6 @@ pub struct Located {
 
 /// Decodes one encoded value, like `decode_value`, and says where the bytes have their first fault.
 ///
-/// If decoding fails, the bytes are read once more, without a value.
-///
 /// # Errors
 /// Returns the error of `decode_value`, with the place of the first fault in the order of the bytes.
 /// A byte that is no format code, the first byte of a value that is too deep, and the code of a
@@ -46,7 +46,7 @@ pub struct Located {
 /// over at the first of them.
 ///
 /// # Memory
-/// Allocates from `alloc` as `decode_value` does. The place is found without memory.
+/// Allocates from `alloc` as `decode_value` does.
 ///
 /// # Example
 /// `c003024046`, a list of null and a byte that is no format code, fails with `InvalidFormatCode`
@@ -59,23 +59,21 @@ pub fn decode_value_located(alloc: Global, bytes: &[u8]) -> Result<Value, Locate
     ensures place { IfErr result (λ e. ¬ (e.error ≡ OutOfMemory) → IsPlaced e.place 256 bytes.now) }
     ensures memory { IfErr result (λ e. e.error ≡ OutOfMemory → e.place ≡ None) }
 {
-    match decode_value(alloc, bytes) {
+    match decode(Some(alloc), bytes, None, 256) {
         Ok(value) => Ok(value),
-        Err(error) => Err(with_place(error, bytes)),
+        Err(failure) => Err(with_place(failure, bytes)),
     }
 }
 
 /// Decodes one encoded value that contains at most `elements` array elements without bytes, like
 /// `decode_value_limited`, and says where the bytes have their first fault.
 ///
-/// If the bytes have a fault, they are read once more, without a value.
-///
 /// # Errors
 /// Returns the error of `decode_value_limited`: with the place that `decode_value_located` describes
 /// if the bytes have a fault, and without a place if it is `TooLong` or out of memory.
 ///
 /// # Memory
-/// Allocates from `alloc` as `decode_value_limited` does. The place is found without memory.
+/// Allocates from `alloc` as `decode_value_limited` does.
 ///
 /// # Example
 /// With a limit of two elements, `e0020340`, an array of three nulls, fails with `TooLong` and no
@@ -98,29 +96,38 @@ pub fn decode_value_limited_located(
     ensures none { IfErr result (λ e. (e.error ≡ OutOfMemory) ⊎ (e.error ≡ TooLong) →
         e.place ≡ None) }
 {
-    match decode_value_limited(alloc, bytes, elements) {
+    match decode(Some(alloc), bytes, Some(elements), 256) {
         Ok(value) => Ok(value),
-        Err(Error::TooLong) => Err(Located {
-            error: Error::TooLong,
-            place: None,
-        }),
-        Err(error) => Err(with_place(error, bytes)),
+        Err(failure) => Err(with_place(failure, bytes)),
     }
 }
 
-// Returns the error of decoding the bytes, with the place of their first fault unless an allocation
-// failed.
-fn with_place(error: Error, bytes: &[u8]) -> Located
-    ensures error { result.error ≡ error }
-    ensures place { ¬ (error ≡ OutOfMemory) → ((t : Tree) → ¬ Spells 256 bytes.now t) →
-        IsPlaced result.place 256 bytes.now }
-    ensures memory { error ≡ OutOfMemory → result.place ≡ None }
+// Returns the error, with its place unless an allocation failed or a limit is exceeded.
+fn with_place(failure: Failure, bytes: &[u8]) -> Located
+    ensures error { result.error ≡ failure.error }
+    ensures place { ¬ (failure.error ≡ OutOfMemory) → ¬ (failure.error ≡ TooLong) →
+        IsAt (decode_spot 256 bytes.now) failure → IsPlaced result.place 256 bytes.now }
+    ensures none { (failure.error ≡ OutOfMemory) ⊎ (failure.error ≡ TooLong) →
+        result.place ≡ None }
 {
-    let place = match error {
-        Error::OutOfMemory => None,
-        _ => fault_place(bytes),
+    let place = match failure.error {
+        Error::OutOfMemory | Error::TooLong => None,
+        _ => Some(place_of(&failure, bytes)),
     };
-    Located { error, place }
+    Located {
+        error: failure.error,
+        place,
+    }
+}
+
+// Returns the place of the failure in these bytes.
+fn place_of(failure: &Failure, bytes: &[u8]) -> Place
+    ensures { IsAt (decode_spot 256 bytes.now) failure.now → IsPlace result 256 bytes.now }
+{
+    Place {
+        offset: bytes.len().saturating_sub(failure.left),
+        depth: 256u32.saturating_sub(failure.levels) as u16,
+    }
 }
 
 /// Returns where bytes that are not one encoded value have their first fault, and `None` if they are
@@ -136,11 +143,8 @@ pub fn fault_place(bytes: &[u8]) -> Option<Place>
     ensures err { OnSome result ((t : Tree) → ¬ Spells 256 bytes.now t) }
     ensures place { IfSome result (λ p. IsPlace p 256 bytes.now) }
 {
-    match check_values(1, bytes, 256, 0) {
-        Ok(()) => None,
-        Err(spot) => Some(Place {
-            offset: bytes.len().saturating_sub(spot.left),
-            depth: 256u16.saturating_sub(spot.levels),
-        }),
+    match decode(None, bytes, None, 256) {
+        Ok(_) => None,
+        Err(failure) => Some(place_of(&failure, bytes)),
     }
 }

@@ -76,6 +76,7 @@ pub fn primitive_code(byte: u8) -> Result<EncodingCodes, Error>
     ensures err { IfErr result (λ e. primitive_of byte ≡ None) }
     ensures described { IfErr result (λ e. byte ≡ 0 → e ≡ Error.InvalidValue) }
     ensures kind { IfErr result (λ e. ¬ (e ≡ Error.TooLong)) }
+    ensures memory { IfErr result (λ e. ¬ (e ≡ Error.OutOfMemory)) }
     ensures unnamed { IfErr result (λ e. byte ≢ 0 → e ≡ Error.InvalidFormatCode) }
 {
     if byte == 0 {

@@ -1,22 +1,26 @@
 //! Reads an encoded value, recursively, from its first byte on.
 
-ghost use Rattle.std.specs.Prelude.{◌≡◌, [], ◌∷◌, ◌++◌, ◌<◌, ℕ, IfOk, OnOk, IfErr, Some, None, map, vec_len, vec_capacity};
+ghost use Rattle.std.specs.Prelude.{◌≡◌, [], ◌∷◌, ◌++◌, ◌<◌, ◌+◌, ◌%◌, ◌^◌, ℕ, suc, length, IfOk, OnOk, IfErr, Some, None, map, vec_len, vec_capacity};
 ghost use Rattle.amqp_data.specs.declared.error.Error.TheVariants.{OutOfMemory, TooLong};
 ghost use Rattle.amqp_value.specs.TreeOf.{tree_of};
 ghost use Rattle.amqp_value.specs.declared.value.Value.{Value};
 ghost use Rattle.amqp_decode.specs.Scalars.{and_then};
 ghost use Rattle.amqp_decode.specs.WithoutBytes.{Spends, content_around, content_without_bytes, elements_without_bytes, frame_around, in_array, in_payload, sum_of};
 ghost use Rattle.amqp_decode.specs.Parsed.{all, gather, parse, parse_content, payload_in, content_of, frame_in, parse_list, parse_map, parse_array};
-ghost use Rattle.amqp_decode.specs.Faults.{FailsBy, content_fault, fault_around, fault_in, fault_in_item, fault_of_array, fault_of_map, fault_of_payload, fault_of_values};
+ghost use Rattle.amqp_decode.specs.Faults.{FailsBy, content_fault, fault_around, fault_in, fault_in_item, fault_of_array, fault_of_payload, fault_of_values};
+ghost use Rattle.amqp_decode.specs.Failing.{FailsAt, IsBuilt, without_place};
+ghost use Rattle.amqp_decode.specs.Places.{content_spot, skips, spot_around, spot_in, spot_in_item, spot_of_array, spot_of_payload, spot_of_values};
 
+use crate::descriptor::read_descriptor;
+use crate::failure::Failure;
 use crate::fixed::read_fixed;
 use crate::limit::spend_items;
 use crate::payload::{read_count, read_payload};
-use crate::payload_shape::{PayloadShape, payload_shape, primitive_code};
+use crate::payload_shape::{PayloadShape, has_no_payload, payload_shape, primitive_code};
 use crate::push::push_fixed;
 use crate::reserve::{make_room, reserved, reserved_of_a_map};
 use crate::run::read_run;
-use crate::scalar::{read_descriptor, read_scalar};
+use crate::scalar::{left_of_scalar, read_scalar};
 use amqp_data::{Array, Described, EncodingCodes, Error};
 use amqp_value::{MapBuilder, Value};
 use std::alloc::Global;
@@ -38,17 +42,20 @@ const LONG_LIST: u8 = EncodingCodes::List32 as u8;
 // bytes are taken from `limit`, and more than that fail with `TooLong`. The counts of lists and maps
 // reserve memory for at most `spare` elements, keys and values.
 pub fn read_encoded_value(
-    alloc: Global,
+    alloc: Option<Global>,
     bytes: &mut &[u8],
     depth: u16,
     limit: &mut Option<u32>,
     spare: usize,
-) -> Result<Value, Error>
-    ensures ok { IfOk result (λ v. parse depth bytes.old.now ≡ Some (tree_of v, bytes.new.now)) }
-    ensures err { IfErr result (λ e. ¬ (e ≡ OutOfMemory) → ¬ (e ≡ TooLong) →
+) -> Result<Value, Failure>
+    ensures ok { IfOk result (λ v.
+        IsBuilt alloc (tree_of v) (λ t. parse depth bytes.old.now ≡ Some (t, bytes.new.now))) }
+    ensures err { IfErr result (λ e. ¬ (e.error ≡ OutOfMemory) → ¬ (e.error ≡ TooLong) →
         parse depth bytes.old.now ≡ None) }
-    ensures limit { Spends result limit.old limit.new (elements_without_bytes depth bytes.old.now) }
-    ensures fault { FailsBy (fault_in depth bytes.old.now) result }
+    ensures limit { Spends (without_place result) limit.old limit.new (elements_without_bytes depth bytes.old.now) }
+    ensures fault { FailsBy (fault_in depth bytes.old.now) (without_place result) }
+    ensures spot { FailsAt (λ after. spot_in depth after bytes.old.now) result }
+    ensures checked { alloc ≡ None → IfErr result (λ e. ¬ (e.error ≡ OutOfMemory)) }
 {
     read_value(alloc, bytes, depth, limit, spare)
 }
@@ -57,23 +64,26 @@ pub fn read_encoded_value(
 #[cycle(read)]
 #[inline(always)]
 fn read_value(
-    alloc: Global,
+    alloc: Option<Global>,
     bytes: &mut &[u8],
     depth: u16,
     limit: &mut Option<u32>,
     spare: usize,
-) -> Result<Value, Error>
-    ensures ok { IfOk result (λ v. parse depth bytes.old.now ≡ Some (tree_of v, bytes.new.now)) }
-    ensures err { IfErr result (λ e. ¬ (e ≡ OutOfMemory) → ¬ (e ≡ TooLong) →
+) -> Result<Value, Failure>
+    ensures ok { IfOk result (λ v.
+        IsBuilt alloc (tree_of v) (λ t. parse depth bytes.old.now ≡ Some (t, bytes.new.now))) }
+    ensures err { IfErr result (λ e. ¬ (e.error ≡ OutOfMemory) → ¬ (e.error ≡ TooLong) →
         parse depth bytes.old.now ≡ None) }
-    ensures limit { Spends result limit.old limit.new (elements_without_bytes depth bytes.old.now) }
-    ensures fault { FailsBy (fault_in depth bytes.old.now) result }
+    ensures limit { Spends (without_place result) limit.old limit.new (elements_without_bytes depth bytes.old.now) }
+    ensures fault { FailsBy (fault_in depth bytes.old.now) (without_place result) }
+    ensures spot { FailsAt (λ after. spot_in depth after bytes.old.now) result }
+    ensures checked { alloc ≡ None → IfErr result (λ e. ¬ (e.error ≡ OutOfMemory)) }
 {
     if depth == 0 {
-        return Err(Error::InvalidValue);
+        return Err(Failure::at(Error::InvalidValue, bytes.len(), 0));
     }
     match bytes.split_first() {
-        None => Err(Error::UnexpectedEof),
+        None => Err(Failure::ended(u32::from(depth))),
         Some((code, rest)) => {
             if let Some((value, rest)) = read_fixed(*code, rest) {
                 *bytes = rest;
@@ -89,20 +99,23 @@ fn read_value(
 #[cycle(read)]
 #[inline(never)]
 pub fn read_after_code(
-    alloc: Global,
+    alloc: Option<Global>,
     code: u8,
     bytes: &mut &[u8],
     depth: u16,
     limit: &mut Option<u32>,
     spare: usize,
-) -> Result<Value, Error>
+) -> Result<Value, Failure>
     ensures ok { IfOk result (λ v.
-        frame_in (parse depth) (parse_content depth) (code ∷ bytes.old.now)
-        ≡ Some (tree_of v, bytes.new.now)) }
-    ensures err { IfErr result (λ e. ¬ (e ≡ OutOfMemory) → ¬ (e ≡ TooLong) →
+        IsBuilt alloc (tree_of v) (λ t.
+        frame_in (parse depth) (parse_content depth) (code ∷ bytes.old.now) ≡ Some (t, bytes.new.now))) }
+    ensures err { IfErr result (λ e. ¬ (e.error ≡ OutOfMemory) → ¬ (e.error ≡ TooLong) →
         frame_in (parse depth) (parse_content depth) (code ∷ bytes.old.now) ≡ None) }
-    ensures limit { Spends result limit.old limit.new (frame_around depth (code ∷ bytes.old.now)) }
-    ensures fault { FailsBy (fault_around depth (code ∷ bytes.old.now)) result }
+    ensures limit { Spends (without_place result) limit.old limit.new (frame_around depth (code ∷ bytes.old.now)) }
+    ensures fault { FailsBy (fault_around depth (code ∷ bytes.old.now)) (without_place result) }
+    ensures spot { length bytes.old.now + 1 < 2 ^ 64 →
+        FailsAt (λ after. spot_around depth after (code ∷ bytes.old.now)) result }
+    ensures checked { alloc ≡ None → IfErr result (λ e. ¬ (e.error ≡ OutOfMemory)) }
 {
     if code == 0 {
         return read_described(alloc, bytes, depth, limit, spare);
@@ -114,7 +127,13 @@ pub fn read_after_code(
         LIST => read_named(alloc, EncodingCodes::List8, bytes, depth, limit, spare),
         LONG_STRING => read_named(alloc, EncodingCodes::Str32, bytes, depth, limit, spare),
         LONG_LIST => read_named(alloc, EncodingCodes::List32, bytes, depth, limit, spare),
-        _ => read_named(alloc, primitive_code(code)?, bytes, depth, limit, spare),
+        _ => match primitive_code(code) {
+            Ok(code) => read_named(alloc, code, bytes, depth, limit, spare),
+            Err(error) => {
+                let left = bytes.len().saturating_add(1);
+                Err(Failure::at(error, left, u32::from(depth) + 1))
+            }
+        },
     }
 }
 
@@ -123,25 +142,32 @@ pub fn read_after_code(
 #[cycle(read)]
 #[inline(never)]
 fn read_described(
-    alloc: Global,
+    alloc: Option<Global>,
     bytes: &mut &[u8],
     depth: u16,
     limit: &mut Option<u32>,
     spare: usize,
-) -> Result<Value, Error>
+) -> Result<Value, Failure>
     ensures ok { IfOk result (λ v.
-        frame_in (parse depth) (parse_content depth) (0 ∷ bytes.old.now)
-        ≡ Some (tree_of v, bytes.new.now)) }
-    ensures err { IfErr result (λ e. ¬ (e ≡ OutOfMemory) → ¬ (e ≡ TooLong) →
+        IsBuilt alloc (tree_of v) (λ t.
+        frame_in (parse depth) (parse_content depth) (0 ∷ bytes.old.now) ≡ Some (t, bytes.new.now))) }
+    ensures err { IfErr result (λ e. ¬ (e.error ≡ OutOfMemory) → ¬ (e.error ≡ TooLong) →
         frame_in (parse depth) (parse_content depth) (0 ∷ bytes.old.now) ≡ None) }
-    ensures limit { Spends result limit.old limit.new (frame_around depth (0 ∷ bytes.old.now)) }
-    ensures fault { FailsBy (fault_around depth (0 ∷ bytes.old.now)) result }
+    ensures limit { Spends (without_place result) limit.old limit.new (frame_around depth (0 ∷ bytes.old.now)) }
+    ensures fault { FailsBy (fault_around depth (0 ∷ bytes.old.now)) (without_place result) }
+    ensures spot { FailsAt (λ after. spot_around depth after (0 ∷ bytes.old.now)) result }
+    ensures checked { alloc ≡ None → IfErr result (λ e. ¬ (e.error ≡ OutOfMemory)) }
 {
-    let (descriptor, rest) = read_descriptor(alloc, bytes)?;
+    let (descriptor, rest) = read_descriptor(alloc, bytes, u32::from(depth))?;
     *bytes = rest;
     let value = read_value(alloc, bytes, depth, limit, spare)?;
-    let described = Box::new(alloc, Described { descriptor, value })?;
-    Ok(Value::Described(described))
+    match alloc {
+        Some(alloc) => {
+            let described = Box::new(alloc, Described { descriptor, value })?;
+            Ok(Value::Described(described))
+        }
+        None => Ok(Value::Null),
+    }
 }
 
 // Reads the payload of this code at the start of `bytes`, and leaves the bytes after it. `depth`
@@ -149,60 +175,91 @@ fn read_described(
 #[cycle(read)]
 #[inline(always)]
 fn read_named(
-    alloc: Global,
+    alloc: Option<Global>,
     code: EncodingCodes,
     bytes: &mut &[u8],
     depth: u16,
     limit: &mut Option<u32>,
     spare: usize,
-) -> Result<Value, Error>
+) -> Result<Value, Failure>
     ensures ok { IfOk result (λ v.
-        payload_in (content_of (parse depth) (parse_content depth)) code bytes.old.now
-        ≡ Some (tree_of v, bytes.new.now)) }
-    ensures err { IfErr result (λ e. ¬ (e ≡ OutOfMemory) → ¬ (e ≡ TooLong) →
+        IsBuilt alloc (tree_of v) (λ t.
+        payload_in (content_of (parse depth) (parse_content depth)) code bytes.old.now ≡ Some (t, bytes.new.now))) }
+    ensures err { IfErr result (λ e. ¬ (e.error ≡ OutOfMemory) → ¬ (e.error ≡ TooLong) →
         payload_in (content_of (parse depth) (parse_content depth)) code bytes.old.now ≡ None) }
-    ensures limit { Spends result limit.old limit.new
+    ensures limit { Spends (without_place result) limit.old limit.new
         (in_payload (content_around depth) code bytes.old.now) }
-    ensures fault { FailsBy (fault_of_payload (content_fault depth) code bytes.old.now) result }
+    ensures fault { FailsBy (fault_of_payload (content_fault depth) code bytes.old.now)
+        (without_place result) }
+    ensures spot { FailsAt (λ after.
+        spot_of_payload (content_spot depth) (suc depth) code after bytes.old.now) result }
+    ensures checked { alloc ≡ None → IfErr result (λ e. ¬ (e.error ≡ OutOfMemory)) }
 {
-    let (content, rest) = read_payload(code, bytes)?;
+    let Ok((content, rest)) = read_payload(code, bytes) else {
+        return Err(Failure::ended(u32::from(depth) + 1));
+    };
     *bytes = rest;
-    read_content(alloc, code, content, depth, limit, spare)
+    match read_content(alloc, code, content, depth, limit, spare) {
+        Ok(value) => Ok(value),
+        Err(failure) => Err(failure.before(bytes)),
+    }
 }
 
 // Reads a value from the content of a payload of this code. `depth` limits the values inside.
 #[cycle(read)]
 #[inline(always)]
 fn read_content(
-    alloc: Global,
+    alloc: Option<Global>,
     code: EncodingCodes,
     content: &[u8],
     depth: u16,
     limit: &mut Option<u32>,
     spare: usize,
-) -> Result<Value, Error>
+) -> Result<Value, Failure>
     ensures ok { IfOk result (λ v.
-        content_of (parse depth) (parse_content depth) code content.now ≡ Some (tree_of v)) }
-    ensures err { IfErr result (λ e. ¬ (e ≡ OutOfMemory) → ¬ (e ≡ TooLong) →
+        IsBuilt alloc (tree_of v) (λ t.
+        content_of (parse depth) (parse_content depth) code content.now ≡ Some t)) }
+    ensures err { IfErr result (λ e. ¬ (e.error ≡ OutOfMemory) → ¬ (e.error ≡ TooLong) →
         content_of (parse depth) (parse_content depth) code content.now ≡ None) }
-    ensures limit { Spends result limit.old limit.new (content_around depth code content.now) }
-    ensures fault { FailsBy (content_fault depth code content.now) result }
+    ensures limit { Spends (without_place result) limit.old limit.new (content_around depth code content.now) }
+    ensures fault { FailsBy (content_fault depth code content.now) (without_place result) }
+    ensures spot { FailsAt (λ after. content_spot depth code after content.now) result }
+    ensures checked { alloc ≡ None → IfErr result (λ e. ¬ (e.error ≡ OutOfMemory)) }
 {
     match payload_shape(code) {
-        PayloadShape::Described => Err(Error::InvalidValue),
-        PayloadShape::Scalar => read_scalar(alloc, code, content),
-        PayloadShape::List(count) => {
-            let (count, body) = read_count(count, content)?;
-            read_list(alloc, count, body, depth, limit, spare)
+        PayloadShape::Described => {
+            Err(Failure::at(Error::InvalidValue, content.len(), u32::from(depth) + 1))
         }
-        PayloadShape::Map(count) => {
-            let (count, body) = read_count(count, content)?;
-            read_entries(alloc, count, body, depth, limit, spare)
-        }
-        PayloadShape::Array(count) => {
-            let (count, body) = read_count(count, content)?;
-            read_array(alloc, count, body, depth, limit, spare)
-        }
+        PayloadShape::Scalar => match read_scalar(alloc, code, content) {
+            Ok(value) => Ok(value),
+            Err(error) => {
+                let left = left_of_scalar(code, content);
+                Err(Failure::at(error, left, u32::from(depth) + 1))
+            }
+        },
+        PayloadShape::List(count) => match read_count(count, content) {
+            Ok((count, body)) => match alloc {
+                Some(alloc) => read_list(alloc, count, body, depth, limit, spare),
+                None => check_values(count, body, depth, limit),
+            },
+            Err(_) => Err(Failure::ended(u32::from(depth))),
+        },
+        PayloadShape::Map(count) => match read_count(count, content) {
+            Ok((count, body)) => {
+                if count % 2 != 0 {
+                    return Err(Failure::at(Error::InvalidValue, body.len() + 1, u32::from(depth)));
+                }
+                match alloc {
+                    Some(alloc) => read_entries(alloc, count, body, depth, limit, spare),
+                    None => check_values(count, body, depth, limit),
+                }
+            }
+            Err(_) => Err(Failure::ended(u32::from(depth))),
+        },
+        PayloadShape::Array(count) => match read_count(count, content) {
+            Ok((count, body)) => read_array(alloc, count, body, depth, limit, spare),
+            Err(_) => Err(Failure::ended(u32::from(depth))),
+        },
     }
 }
 
@@ -210,27 +267,35 @@ fn read_content(
 // after it.
 #[cycle(read)]
 fn read_item(
-    alloc: Global,
+    alloc: Option<Global>,
     code: EncodingCodes,
     bytes: &mut &[u8],
     depth: u16,
     limit: &mut Option<u32>,
     spare: usize,
-) -> Result<Value, Error>
+) -> Result<Value, Failure>
     ensures ok { IfOk result (λ v.
-        payload_in (parse_content depth) code bytes.old.now ≡ Some (tree_of v, bytes.new.now)) }
-    ensures err { IfErr result (λ e. ¬ (e ≡ OutOfMemory) → ¬ (e ≡ TooLong) →
+        IsBuilt alloc (tree_of v) (λ t.
+        payload_in (parse_content depth) code bytes.old.now ≡ Some (t, bytes.new.now))) }
+    ensures err { IfErr result (λ e. ¬ (e.error ≡ OutOfMemory) → ¬ (e.error ≡ TooLong) →
         payload_in (parse_content depth) code bytes.old.now ≡ None) }
-    ensures limit { Spends result limit.old limit.new
+    ensures limit { Spends (without_place result) limit.old limit.new
         (in_payload (content_without_bytes depth) code bytes.old.now) }
-    ensures fault { FailsBy (fault_in_item depth code bytes.old.now) result }
+    ensures fault { FailsBy (fault_in_item depth code bytes.old.now) (without_place result) }
+    ensures spot { FailsAt (λ after. spot_in_item depth code after bytes.old.now) result }
+    ensures checked { alloc ≡ None → IfErr result (λ e. ¬ (e.error ≡ OutOfMemory)) }
 {
     if depth == 0 {
-        return Err(Error::InvalidValue);
+        return Err(Failure::at(Error::InvalidValue, bytes.len(), 0));
     }
-    let (content, rest) = read_payload(code, bytes)?;
+    let Ok((content, rest)) = read_payload(code, bytes) else {
+        return Err(Failure::ended(u32::from(depth)));
+    };
     *bytes = rest;
-    read_content(alloc, code, content, depth - 1, limit, spare)
+    match read_content(alloc, code, content, depth - 1, limit, spare) {
+        Ok(value) => Ok(value),
+        Err(failure) => Err(failure.before(bytes)),
+    }
 }
 
 // Reads `count` elements that must fill `body`.
@@ -243,13 +308,16 @@ fn read_list(
     depth: u16,
     limit: &mut Option<u32>,
     spare: usize,
-) -> Result<Value, Error>
+) -> Result<Value, Failure>
     ensures ok { IfOk result (λ v. parse_list (parse depth) (count, body.now) ≡ Some (tree_of v)) }
-    ensures err { IfErr result (λ e. ¬ (e ≡ OutOfMemory) → ¬ (e ≡ TooLong) →
+    ensures err { IfErr result (λ e. ¬ (e.error ≡ OutOfMemory) → ¬ (e.error ≡ TooLong) →
         parse_list (parse depth) (count, body.now) ≡ None) }
-    ensures limit { Spends result limit.old limit.new
+    ensures limit { Spends (without_place result) limit.old limit.new
         (sum_of (elements_without_bytes depth) (parse depth) count body.now) }
-    ensures fault { FailsBy (fault_of_values (fault_in depth) (parse depth) count body.now) result }
+    ensures fault { FailsBy (fault_of_values (fault_in depth) (parse depth) count body.now)
+        (without_place result) }
+    ensures spot { FailsAt (λ after.
+        spot_of_values (spot_in depth) (parse depth) depth count after body.now) result }
 {
     if count == 0 && body.is_empty() {
         return Ok(Value::List(Vec::new(alloc)));
@@ -264,7 +332,7 @@ fn read_list(
     if rest.is_empty() {
         Ok(Value::List(list))
     } else {
-        Err(Error::InvalidValue)
+        Err(Failure::at(Error::InvalidValue, rest.len(), u32::from(depth)))
     }
 }
 
@@ -278,27 +346,28 @@ fn push_value(
     limit: &mut Option<u32>,
     spare: usize,
     list: &mut Vec<Value>,
-) -> Result<(), Error>
+) -> Result<(), Failure>
     requires { vec_len list.old < vec_capacity list.old }
     ensures ok { OnOk result ((v : Value) × (list.new.items ≡ list.old.items ++ v ∷ [])
         × (parse depth bytes.old.now ≡ Some (tree_of v, bytes.new.now))) }
-    ensures err { IfErr result (λ e. ¬ (e ≡ OutOfMemory) → ¬ (e ≡ TooLong) →
+    ensures err { IfErr result (λ e. ¬ (e.error ≡ OutOfMemory) → ¬ (e.error ≡ TooLong) →
         parse depth bytes.old.now ≡ None) }
-    ensures limit { Spends result limit.old limit.new (elements_without_bytes depth bytes.old.now) }
-    ensures fault { FailsBy (fault_in depth bytes.old.now) result }
+    ensures limit { Spends (without_place result) limit.old limit.new (elements_without_bytes depth bytes.old.now) }
+    ensures fault { FailsBy (fault_in depth bytes.old.now) (without_place result) }
+    ensures spot { FailsAt (λ after. spot_in depth after bytes.old.now) result }
 {
     if depth == 0 {
-        return Err(Error::InvalidValue);
+        return Err(Failure::at(Error::InvalidValue, bytes.len(), 0));
     }
     match bytes.split_first() {
-        None => Err(Error::UnexpectedEof),
+        None => Err(Failure::ended(u32::from(depth))),
         Some((code, rest)) => {
             if let Some(rest) = push_fixed(*code, rest, list) {
                 *bytes = rest;
                 return Ok(());
             }
             *bytes = rest;
-            let value = read_after_code(alloc, *code, bytes, depth - 1, limit, spare)?;
+            let value = read_after_code(Some(alloc), *code, bytes, depth - 1, limit, spare)?;
             list.push_reserved(value);
             Ok(())
         }
@@ -315,29 +384,30 @@ fn read_entries(
     depth: u16,
     limit: &mut Option<u32>,
     spare: usize,
-) -> Result<Value, Error>
+) -> Result<Value, Failure>
+    requires { count % 2 ≡ 0 }
     ensures ok { IfOk result (λ v. parse_map (parse depth) (count, body.now) ≡ Some (tree_of v)) }
-    ensures err { IfErr result (λ e. ¬ (e ≡ OutOfMemory) → ¬ (e ≡ TooLong) →
+    ensures err { IfErr result (λ e. ¬ (e.error ≡ OutOfMemory) → ¬ (e.error ≡ TooLong) →
         parse_map (parse depth) (count, body.now) ≡ None) }
-    ensures limit { Spends result limit.old limit.new
+    ensures limit { Spends (without_place result) limit.old limit.new
         (sum_of (elements_without_bytes depth) (parse depth) count body.now) }
-    ensures fault { FailsBy (fault_of_map (fault_in depth) (parse depth) (count, body.now)) result }
+    ensures fault { FailsBy (fault_of_values (fault_in depth) (parse depth) count body.now)
+        (without_place result) }
+    ensures spot { FailsAt (λ after.
+        spot_of_values (spot_in depth) (parse depth) depth count after body.now) result }
 {
-    if count % 2 != 0 {
-        return Err(Error::InvalidValue);
-    }
     let room = reserved_of_a_map(count, body, spare);
     let mut pairs = MapBuilder::with_capacity(alloc, room / 2)?;
     let mut rest = body;
     for _ in 0..count / 2 {
-        let key = read_value(alloc, &mut rest, depth, limit, spare - room)?;
-        let value = read_value(alloc, &mut rest, depth, limit, spare - room)?;
+        let key = read_value(Some(alloc), &mut rest, depth, limit, spare - room)?;
+        let value = read_value(Some(alloc), &mut rest, depth, limit, spare - room)?;
         pairs.insert(key, value)?;
     }
     if rest.is_empty() {
-        pairs.into_value(alloc)
+        Ok(pairs.into_value(alloc)?)
     } else {
-        Err(Error::InvalidValue)
+        Err(Failure::at(Error::InvalidValue, rest.len(), u32::from(depth)))
     }
 }
 
@@ -345,30 +415,47 @@ fn read_entries(
 #[cycle(read)]
 #[inline(never)]
 fn read_array(
-    alloc: Global,
+    alloc: Option<Global>,
     count: u32,
     body: &[u8],
     depth: u16,
     limit: &mut Option<u32>,
     spare: usize,
-) -> Result<Value, Error>
+) -> Result<Value, Failure>
     ensures ok { IfOk result (λ v.
-        parse_array (parse_content depth) (count, body.now) ≡ Some (tree_of v)) }
-    ensures err { IfErr result (λ e. ¬ (e ≡ OutOfMemory) → ¬ (e ≡ TooLong) →
+        IsBuilt alloc (tree_of v) (λ t.
+        parse_array (parse_content depth) (count, body.now) ≡ Some t)) }
+    ensures err { IfErr result (λ e. ¬ (e.error ≡ OutOfMemory) → ¬ (e.error ≡ TooLong) →
         parse_array (parse_content depth) (count, body.now) ≡ None) }
-    ensures limit { Spends result limit.old limit.new
+    ensures limit { Spends (without_place result) limit.old limit.new
         (in_array (content_without_bytes depth) (parse_content depth) (count, body.now)) }
-    ensures fault { FailsBy (fault_of_array (fault_in_item depth) (parse_content depth) (count, body.now)) result }
+    ensures fault { FailsBy
+        (fault_of_array (fault_in_item depth) (parse_content depth) (count, body.now))
+        (without_place result) }
+    ensures spot { FailsAt (λ after.
+        spot_of_array (spot_in_item depth) (parse_content depth) depth after (count, body.now))
+        result }
+    ensures checked { alloc ≡ None → IfErr result (λ e. ¬ (e.error ≡ OutOfMemory)) }
 {
     match body.split_first() {
-        None if count == 0 => Ok(Value::Array(Array::from(Vec::new(alloc)))),
-        None => Err(Error::UnexpectedEof),
-        Some((constructor, payloads)) => {
-            let code = primitive_code(*constructor)?;
-            spend_items(limit, code, count)?;
-            let items = read_items(alloc, code, count, payloads, depth, limit, spare)?;
-            Ok(Value::Array(Array::from(items)))
-        }
+        None if count == 0 => match alloc {
+            Some(alloc) => Ok(Value::Array(Array::from(Vec::new(alloc)))),
+            None => Ok(Value::Null),
+        },
+        None => Err(Failure::ended(u32::from(depth))),
+        Some((constructor, payloads)) => match primitive_code(*constructor) {
+            Ok(code) => {
+                spend_items(limit, code, count)?;
+                match alloc {
+                    Some(alloc) => {
+                        let items = read_items(alloc, code, count, payloads, depth, limit, spare)?;
+                        Ok(Value::Array(Array::from(items)))
+                    }
+                    None => check_items(code, count, payloads, depth, limit),
+                }
+            }
+            Err(error) => Err(Failure::at(error, body.len(), u32::from(depth))),
+        },
     }
 }
 
@@ -383,26 +470,123 @@ fn read_items(
     depth: u16,
     limit: &mut Option<u32>,
     spare: usize,
-) -> Result<Vec<Value>, Error>
+) -> Result<Vec<Value>, Failure>
     ensures ok { IfOk result (λ v.
         and_then (gather (payload_in (parse_content depth) code) count payloads.now []) all
         ≡ Some (map tree_of v.items)) }
-    ensures err { IfErr result (λ e. ¬ (e ≡ OutOfMemory) → ¬ (e ≡ TooLong) →
+    ensures err { IfErr result (λ e. ¬ (e.error ≡ OutOfMemory) → ¬ (e.error ≡ TooLong) →
         and_then (gather (payload_in (parse_content depth) code) count payloads.now []) all ≡ None) }
-    ensures limit { Spends result limit.old limit.new
+    ensures limit { Spends (without_place result) limit.old limit.new
         (sum_of (in_payload (content_without_bytes depth) code)
         (payload_in (parse_content depth) code) count payloads.now) }
-    ensures fault { FailsBy (fault_of_values (fault_in_item depth code) (payload_in (parse_content depth) code) count payloads.now) result }
+    ensures fault { FailsBy (fault_of_values (fault_in_item depth code)
+        (payload_in (parse_content depth) code) count payloads.now) (without_place result) }
+    ensures spot { FailsAt (λ after. spot_of_values (spot_in_item depth code)
+        (payload_in (parse_content depth) code) depth count after payloads.now) result }
 {
     let mut items = Vec::new(alloc);
     let mut rest = payloads;
     let left = read_run(code, depth, count, &mut rest, &mut items)?;
     for _ in 0..left {
-        let item = read_item(alloc, code, &mut rest, depth, limit, spare)?;
+        let item = read_item(Some(alloc), code, &mut rest, depth, limit, spare)?;
         items.push(item)?;
     }
     if !rest.is_empty() {
-        return Err(Error::InvalidValue);
+        return Err(Failure::at(Error::InvalidValue, rest.len(), u32::from(depth)));
     }
     Ok(items)
+}
+
+// Checks that `count` encoded values fill `body`.
+#[cycle(read)]
+#[inline(never)]
+fn check_values(
+    count: u32,
+    body: &[u8],
+    depth: u16,
+    limit: &mut Option<u32>,
+) -> Result<Value, Failure>
+    ensures ok { OnOk result (skips (parse depth) count body.now ≡ Some []) }
+    ensures err { IfErr result (λ e. ¬ (e.error ≡ TooLong) →
+        ¬ (skips (parse depth) count body.now ≡ Some [])) }
+    ensures limit { Spends (without_place result) limit.old limit.new
+        (sum_of (elements_without_bytes depth) (parse depth) count body.now) }
+    ensures fault { FailsBy (fault_of_values (fault_in depth) (parse depth) count body.now)
+        (without_place result) }
+    ensures spot { FailsAt (λ after.
+        spot_of_values (spot_in depth) (parse depth) depth count after body.now) result }
+    ensures checked { IfErr result (λ e. ¬ (e.error ≡ OutOfMemory)) }
+{
+    let mut rest = body;
+    for _ in 0..count {
+        drop(read_value(None, &mut rest, depth, limit, 0)?);
+    }
+    if rest.is_empty() {
+        Ok(Value::Null)
+    } else {
+        Err(Failure::at(Error::InvalidValue, rest.len(), u32::from(depth)))
+    }
+}
+
+// Checks that `count` payloads of this code, as array elements, fill `payloads`. Elements without
+// bytes are all alike, so one of them is checked.
+#[cycle(read)]
+fn check_items(
+    code: EncodingCodes,
+    count: u32,
+    payloads: &[u8],
+    depth: u16,
+    limit: &mut Option<u32>,
+) -> Result<Value, Failure>
+    ensures ok { OnOk result
+        (skips (payload_in (parse_content depth) code) count payloads.now ≡ Some []) }
+    ensures err { IfErr result (λ e. ¬ (e.error ≡ TooLong) →
+        ¬ (skips (payload_in (parse_content depth) code) count payloads.now ≡ Some [])) }
+    ensures limit { Spends (without_place result) limit.old limit.new
+        (sum_of (in_payload (content_without_bytes depth) code)
+        (payload_in (parse_content depth) code) count payloads.now) }
+    ensures fault { FailsBy (fault_of_values (fault_in_item depth code)
+        (payload_in (parse_content depth) code) count payloads.now) (without_place result) }
+    ensures spot { FailsAt (λ after. spot_of_values (spot_in_item depth code)
+        (payload_in (parse_content depth) code) depth count after payloads.now) result }
+    ensures checked { IfErr result (λ e. ¬ (e.error ≡ OutOfMemory)) }
+{
+    if has_no_payload(code) {
+        check_each(code, count.min(1), payloads, depth, limit)
+    } else {
+        check_each(code, count, payloads, depth, limit)
+    }
+}
+
+// Like `check_items`, but checks each.
+#[cycle(read)]
+fn check_each(
+    code: EncodingCodes,
+    count: u32,
+    payloads: &[u8],
+    depth: u16,
+    limit: &mut Option<u32>,
+) -> Result<Value, Failure>
+    ensures ok { OnOk result
+        (skips (payload_in (parse_content depth) code) count payloads.now ≡ Some []) }
+    ensures err { IfErr result (λ e. ¬ (e.error ≡ TooLong) →
+        ¬ (skips (payload_in (parse_content depth) code) count payloads.now ≡ Some [])) }
+    ensures limit { Spends (without_place result) limit.old limit.new
+        (sum_of (in_payload (content_without_bytes depth) code)
+        (payload_in (parse_content depth) code) count payloads.now) }
+    ensures fault { FailsBy (fault_of_values (fault_in_item depth code)
+        (payload_in (parse_content depth) code) count payloads.now) (without_place result) }
+    ensures spot { FailsAt (λ after. spot_of_values (spot_in_item depth code)
+        (payload_in (parse_content depth) code) depth count after payloads.now) result }
+    ensures checked { IfErr result (λ e. ¬ (e.error ≡ OutOfMemory)) }
+{
+    let mut rest = payloads;
+    for _ in 0..count {
+        drop(read_item(None, code, &mut rest, depth, limit, 0)?);
+    }
+    if rest.is_empty() {
+        Ok(Value::Null)
+    } else {
+        Err(Failure::at(Error::InvalidValue, rest.len(), u32::from(depth)))
+    }
 }

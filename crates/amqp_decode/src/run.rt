@@ -1,10 +1,11 @@
 //! Reads the elements of arrays of scalars of fixed width. The code is matched once for an array.
 
-ghost use Rattle.std.specs.Prelude.{◌≡◌, ◌<◌, IfOk, map};
+ghost use Rattle.std.specs.Prelude.{◌≡◌, ◌<◌, ℕ, IfOk, map};
 ghost use Rattle.amqp_value.specs.TreeOf.{tree_of};
 ghost use Rattle.amqp_decode.specs.WithoutBytes.{content_without_bytes, in_payload, sum_of};
 ghost use Rattle.amqp_decode.specs.Parsed.{gather, payload_in, parse_content};
 ghost use Rattle.amqp_decode.specs.Faults.{fault_in_item, fault_of_values};
+ghost use Rattle.amqp_decode.specs.Places.{spot_in_item, spot_of_values};
 
 use crate::fixed::read_fixed;
 use amqp_data::EncodingCodes;
@@ -42,6 +43,11 @@ pub fn read_run(
         (payload_in (parse_content depth) code) left bytes.new.now
         ≡ fault_of_values (fault_in_item depth code)
         (payload_in (parse_content depth) code) count bytes.old.now) }
+    ensures spots { IfOk result (λ left. (after : ℕ) →
+        spot_of_values (spot_in_item depth code)
+        (payload_in (parse_content depth) code) depth left after bytes.new.now
+        ≡ spot_of_values (spot_in_item depth code)
+        (payload_in (parse_content depth) code) depth count after bytes.old.now) }
 {
     if depth == 0 {
         return Ok(count);
@@ -115,6 +121,11 @@ fn read_fixed_run(
         (payload_in (parse_content depth) code) left bytes.new.now
         ≡ fault_of_values (fault_in_item depth code)
         (payload_in (parse_content depth) code) count bytes.old.now) }
+    ensures spots { IfOk result (λ left. (after : ℕ) →
+        spot_of_values (spot_in_item depth code)
+        (payload_in (parse_content depth) code) depth left after bytes.new.now
+        ≡ spot_of_values (spot_in_item depth code)
+        (payload_in (parse_content depth) code) depth count after bytes.old.now) }
 {
     let byte = u8::from(code);
     let mut rest = *bytes;

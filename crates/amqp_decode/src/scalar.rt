@@ -1,31 +1,26 @@
-//! Reads scalars and descriptors.
+//! Reads scalars.
 
-ghost use Rattle.std.specs.Prelude.{◌≡◌, IfOk, IfErr, Some, None, true, false, string_bytes};
+ghost use Rattle.std.specs.Prelude.{◌≡◌, ◌+◌, ℕ, IfOk, IfErr, OnOk, OnErr, Some, None, true, false, string_bytes};
 ghost use Rattle.std.specs.Str.{is_utf8};
 ghost use Rattle.amqp_data.specs.declared.error.Error.TheVariants.{InvalidValue, OutOfMemory, TooLong};
-ghost use Rattle.amqp_ser.specs.Carried.{descriptor_content};
-ghost use Rattle.amqp_ser.specs.Tree.{scalar};
 ghost use Rattle.amqp_value.specs.TreeOf.{tree_of};
 ghost use Rattle.amqp_decode.specs.Scalars.{and_then, single, exact, truth, character, scalar_in, scalar_tree};
-ghost use Rattle.amqp_decode.specs.Parsed.{tree_descriptor, descriptor_at};
-ghost use Rattle.amqp_decode.specs.Faults.{FailsBy, fault_of_descriptor};
+ghost use Rattle.amqp_decode.specs.Failing.{IsBuilt, is_copied};
+ghost use Rattle.amqp_decode.specs.Faults.{FailsBy};
+ghost use Rattle.amqp_decode.specs.Places.{spot_of_scalar};
 
-use crate::payload::read_payload;
-use crate::payload_shape::primitive_code;
 use amqp_data::{
-    ByteBuf, Dec32, Dec64, Dec128, Descriptor, EncodingCodes, Error, F32Bits, F64Bits, Symbol,
-    Timestamp, Uuid,
+    ByteBuf, Dec32, Dec64, Dec128, EncodingCodes, Error, F32Bits, F64Bits, Symbol, Timestamp, Uuid,
 };
 use amqp_value::Value;
 use std::alloc::Global;
 
-// Returns the only byte of the content.
+/// Returns the only byte of the content.
 #[inline(always)]
-fn byte_of(content: &[u8]) -> Result<u8, Error>
+pub fn byte_of(content: &[u8]) -> Result<u8, Error>
     ensures ok { IfOk result (λ b. single content.now ≡ Some b) }
-    ensures err { IfErr result (λ e. single content.now ≡ None) }
-    ensures kind { IfErr result (λ e. ¬ (e ≡ TooLong)) }
-    ensures fault { FailsBy InvalidValue result }
+    ensures err { OnErr result (single content.now ≡ None) }
+    ensures fault { IfErr result (λ e. e ≡ InvalidValue) }
 {
     match content {
         [byte] => Ok(*byte),
@@ -33,13 +28,12 @@ fn byte_of(content: &[u8]) -> Result<u8, Error>
     }
 }
 
-// Returns the content as an array of `N` bytes.
+/// Returns the content as an array of `N` bytes.
 #[inline(always)]
-fn bytes_of<const N: usize>(content: &[u8]) -> Result<[u8; N], Error>
+pub fn bytes_of<const N: usize>(content: &[u8]) -> Result<[u8; N], Error>
     ensures ok { IfOk result (λ b. exact N content.now ≡ Some b) }
-    ensures err { IfErr result (λ e. exact N content.now ≡ None) }
-    ensures kind { IfErr result (λ e. ¬ (e ≡ TooLong)) }
-    ensures fault { FailsBy InvalidValue result }
+    ensures err { OnErr result (exact N content.now ≡ None) }
+    ensures fault { IfErr result (λ e. e ≡ InvalidValue) }
 {
     match <[u8; N]>::try_from(content) {
         Ok(bytes) => Ok(bytes),
@@ -47,8 +41,8 @@ fn bytes_of<const N: usize>(content: &[u8]) -> Result<[u8; N], Error>
     }
 }
 
-// Returns the content as a text, which must be UTF-8.
-fn text_of(alloc: Global, content: &[u8]) -> Result<String, Error>
+/// Returns the content as a text, which must be UTF-8.
+pub fn text_of(alloc: Global, content: &[u8]) -> Result<String, Error>
     ensures ok { IfOk result (λ s. string_bytes s ≡ content.now) }
     ensures valid { IfOk result (λ s. is_utf8 content.now ≡ true) }
     ensures err { IfErr result (λ e. ¬ (e ≡ OutOfMemory) → is_utf8 content.now ≡ false) }
@@ -58,6 +52,18 @@ fn text_of(alloc: Global, content: &[u8]) -> Result<String, Error>
     match std::str::from_utf8(content) {
         Ok(text) => Ok(String::from_str(alloc, text)?),
         Err(_) => Err(Error::InvalidValue),
+    }
+}
+
+/// Checks that the content is a text.
+pub fn check_text(content: &[u8]) -> Result<Value, Error>
+    ensures ok { OnOk result (is_utf8 content.now ≡ true) }
+    ensures err { OnErr result (is_utf8 content.now ≡ false) }
+    ensures fault { IfErr result (λ e. e ≡ InvalidValue) }
+{
+    match std::str::from_utf8(content) {
+        Ok(_) => Ok(Value::Null),
+        Err(_no_text) => Err(Error::InvalidValue),
     }
 }
 
@@ -75,9 +81,8 @@ fn binary_of(alloc: Global, content: &[u8]) -> Result<Vec<u8>, Error>
 #[inline(always)]
 fn truth_of(byte: u8) -> Result<Value, Error>
     ensures ok { IfOk result (λ v. and_then (truth byte) scalar_tree ≡ Some (tree_of v)) }
-    ensures err { IfErr result (λ e. truth byte ≡ None) }
-    ensures kind { IfErr result (λ e. ¬ (e ≡ TooLong)) }
-    ensures fault { FailsBy InvalidValue result }
+    ensures err { OnErr result (truth byte ≡ None) }
+    ensures fault { IfErr result (λ e. e ≡ InvalidValue) }
 {
     match byte {
         0 => Ok(Value::Bool(false)),
@@ -90,9 +95,8 @@ fn truth_of(byte: u8) -> Result<Value, Error>
 #[inline(always)]
 fn character_of(number: u32) -> Result<Value, Error>
     ensures ok { IfOk result (λ v. and_then (character number) scalar_tree ≡ Some (tree_of v)) }
-    ensures err { IfErr result (λ e. character number ≡ None) }
-    ensures kind { IfErr result (λ e. ¬ (e ≡ TooLong)) }
-    ensures fault { FailsBy InvalidValue result }
+    ensures err { OnErr result (character number ≡ None) }
+    ensures fault { IfErr result (λ e. e ≡ InvalidValue) }
 {
     match char::from_u32(number) {
         Some(character) => Ok(Value::Char(character)),
@@ -100,20 +104,15 @@ fn character_of(number: u32) -> Result<Value, Error>
     }
 }
 
-/// Reads a scalar from the content of a payload of this code.
-///
-/// # Errors
-/// Returns `InvalidValue` if the code is not that of a scalar, and if the content is not a valid
-/// boolean, character or text, or has another length than a scalar of fixed width. Returns
-/// `OutOfMemory` if an allocation fails.
+// Reads a scalar whose value is not copied from the content of a payload of this code.
 #[tactic(auto, unfolding(crate::specs::Scalars::scalar_in))]
 #[inline(always)]
-pub fn read_scalar(alloc: Global, code: EncodingCodes, content: &[u8]) -> Result<Value, Error>
+fn read_plain(code: EncodingCodes, content: &[u8]) -> Result<Value, Error>
+    requires { is_copied code ≡ false }
     ensures ok { IfOk result (λ v.
         and_then (scalar_in code content.now) scalar_tree ≡ Some (tree_of v)) }
-    ensures err { IfErr result (λ e. ¬ (e ≡ OutOfMemory) → scalar_in code content.now ≡ None) }
-    ensures kind { IfErr result (λ e. ¬ (e ≡ TooLong)) }
-    ensures fault { FailsBy InvalidValue result }
+    ensures err { OnErr result (scalar_in code content.now ≡ None) }
+    ensures fault { IfErr result (λ e. e ≡ InvalidValue) }
 {
     match code {
         EncodingCodes::Null => Ok(Value::Null),
@@ -160,49 +159,76 @@ pub fn read_scalar(alloc: Global, code: EncodingCodes, content: &[u8]) -> Result
             let bytes: [u8; 16] = bytes_of(content)?;
             Ok(Value::Uuid(Uuid::from(bytes)))
         }
-        EncodingCodes::Vbin8 | EncodingCodes::Vbin32 => {
-            Ok(Value::Binary(ByteBuf::from(binary_of(alloc, content)?)))
-        }
-        EncodingCodes::Str8 | EncodingCodes::Str32 => Ok(Value::String(text_of(alloc, content)?)),
-        EncodingCodes::Sym8 | EncodingCodes::Sym32 => {
-            Ok(Value::Symbol(Symbol::from(text_of(alloc, content)?)))
-        }
-        _ => Err(Error::InvalidValue),
+        EncodingCodes::Vbin8
+        | EncodingCodes::Vbin32
+        | EncodingCodes::Str8
+        | EncodingCodes::Str32
+        | EncodingCodes::Sym8
+        | EncodingCodes::Sym32
+        | EncodingCodes::DescribedType
+        | EncodingCodes::List0
+        | EncodingCodes::List8
+        | EncodingCodes::List32
+        | EncodingCodes::Map8
+        | EncodingCodes::Map32
+        | EncodingCodes::Array8
+        | EncodingCodes::Array32 => Err(Error::InvalidValue),
     }
 }
 
-// Converts a ulong or a symbol to a descriptor.
-fn into_descriptor(value: Value) -> Result<Descriptor, Error>
-    ensures ok { IfOk result (λ d. tree_descriptor (tree_of value) ≡ Some (descriptor_content d)) }
-    ensures err { IfErr result (λ e. tree_descriptor (tree_of value) ≡ None) }
-    ensures kind { IfErr result (λ e. ¬ (e ≡ TooLong)) }
-    ensures fault { FailsBy InvalidValue result }
-{
-    match value {
-        Value::Ulong(number) => Ok(Descriptor::Code(number)),
-        Value::Symbol(name) => Ok(Descriptor::Name(name)),
-        _ => Err(Error::InvalidValue),
-    }
-}
-
-/// Reads the descriptor at the start of `bytes`, and returns it with the bytes after it.
+/// Reads a scalar from the content of a payload of this code. Without an allocator, binaries and
+/// texts are checked, and the value is null.
 ///
 /// # Errors
-/// Returns `InvalidValue` if the scalar is neither a ulong nor a symbol, and the errors of
-/// `primitive_code`, `read_payload` and `read_scalar`.
-#[tactic(auto, unfolding(crate::specs::Parsed::descriptor_at))]
-pub fn read_descriptor(alloc: Global, bytes: &[u8]) -> Result<(Descriptor, &[u8]), Error>
-    ensures ok { IfOk result (λ r.
-        descriptor_at bytes.now ≡ Some (descriptor_content r.0, r.1.now)) }
-    ensures err { IfErr result (λ e. ¬ (e ≡ OutOfMemory) → descriptor_at bytes.now ≡ None) }
+/// Returns `InvalidValue` if the code is not that of a scalar, and if the content is not a valid
+/// boolean, character or text, or has another length than a scalar of fixed width. Returns
+/// `OutOfMemory` if an allocation fails.
+#[tactic(auto, unfolding(crate::specs::Scalars::scalar_in))]
+#[inline(always)]
+pub fn read_scalar(
+    alloc: Option<Global>,
+    code: EncodingCodes,
+    content: &[u8],
+) -> Result<Value, Error>
+    ensures ok { IfOk result (λ v.
+        IsBuilt alloc (tree_of v) (λ t. and_then (scalar_in code content.now) scalar_tree ≡ Some t)) }
+    ensures err { IfErr result (λ e. ¬ (e ≡ OutOfMemory) → scalar_in code content.now ≡ None) }
     ensures kind { IfErr result (λ e. ¬ (e ≡ TooLong)) }
-    ensures fault { FailsBy (fault_of_descriptor bytes.now) result }
+    ensures fault { FailsBy InvalidValue result }
+    ensures checked { alloc ≡ None → IfErr result (λ e. ¬ (e ≡ OutOfMemory)) }
 {
-    let Some((byte, bytes)) = bytes.split_first() else {
-        return Err(Error::UnexpectedEof);
-    };
-    let code = primitive_code(*byte)?;
-    let (content, rest) = read_payload(code, bytes)?;
-    let descriptor = into_descriptor(read_scalar(alloc, code, content)?)?;
-    Ok((descriptor, rest))
+    match code {
+        EncodingCodes::Vbin8 | EncodingCodes::Vbin32 => match alloc {
+            Some(alloc) => Ok(Value::Binary(ByteBuf::from(binary_of(alloc, content)?))),
+            None => Ok(Value::Null),
+        },
+        EncodingCodes::Str8 | EncodingCodes::Str32 => match alloc {
+            Some(alloc) => Ok(Value::String(text_of(alloc, content)?)),
+            None => check_text(content),
+        },
+        EncodingCodes::Sym8 | EncodingCodes::Sym32 => match alloc {
+            Some(alloc) => Ok(Value::Symbol(Symbol::from(text_of(alloc, content)?))),
+            None => check_text(content),
+        },
+        _ => read_plain(code, content),
+    }
+}
+
+/// Returns where the content of a payload of this code is no scalar: the number of bytes from there
+/// to its end.
+#[tactic(auto, unfolding(crate::specs::Scalars::scalar_in))]
+#[inline(never)]
+pub fn left_of_scalar(code: EncodingCodes, content: &[u8]) -> usize
+    ensures { scalar_in code content.now ≡ None → (level after : ℕ) →
+        spot_of_scalar level code after content.now ≡ (result + after, level) }
+{
+    match code {
+        EncodingCodes::Str8 | EncodingCodes::Str32 | EncodingCodes::Sym8 | EncodingCodes::Sym32 => {
+            match std::str::from_utf8(content) {
+                Ok(_) => 0,
+                Err(error) => content.len() - error.valid_up_to(),
+            }
+        }
+        _ => content.len(),
+    }
 }

@@ -6,9 +6,9 @@ ghost use Rattle.amqp_value.specs.TreeOf.{tree_of};
 ghost use Rattle.amqp_decode.specs.Parsed.{parse, descriptor_at};
 ghost use Rattle.amqp_decode.specs.WithoutBytes.{elements_without_bytes};
 
+use crate::descriptor::read_descriptor;
 use crate::prefix::gave_up::GaveUp;
 use crate::read::read_after_code;
-use crate::scalar::read_descriptor;
 use amqp_data::Descriptor;
 use amqp_value::Value;
 use std::alloc::Global;
@@ -32,7 +32,7 @@ pub fn read_value_after_code(
 {
     let spare = bytes.len();
     let mut limit = Some(0);
-    match read_after_code(alloc, code, bytes, depth, &mut limit, spare) {
+    match read_after_code(Some(alloc), code, bytes, depth, &mut limit, spare) {
         Ok(value) => Ok(value),
         Err(_) => Err(GaveUp),
     }
@@ -45,7 +45,7 @@ pub fn split_descriptor(alloc: Global, bytes: &[u8]) -> Result<(Descriptor, &[u8
     ensures { IfOk result (λ r.
         descriptor_at bytes.now ≡ Some (descriptor_content r.0, r.1.now)) }
 {
-    match read_descriptor(alloc, bytes) {
+    match read_descriptor(Some(alloc), bytes, 0) {
         Ok(read) => Ok(read),
         Err(_) => Err(GaveUp),
     }

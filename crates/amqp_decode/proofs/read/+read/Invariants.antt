@@ -1,10 +1,11 @@
-use Rattle.std.proofs.Common.{◌≡◌, [], map, ◌+◌, ◌-◌, ◌*◌, ◌/◌}
+use Rattle.std.proofs.Common.{◌≡◌, ℕ, [], map, ◌+◌, ◌-◌, ◌*◌, ◌/◌}
 use Rattle.amqp_ser.specs.Tree.{no_pairs}
 use Rattle.amqp_value.specs.TreeOf.{tree_of}
 use Rattle.amqp_value.specs.MapBuilder.{collected_pairs}
 use Rattle.amqp_decode.specs.Parsed.{parse, parse_content, payload_in, gather, insert}
 use Rattle.amqp_decode.specs.WithoutBytes.{content_without_bytes, elements_without_bytes, in_payload, sum_of}
 use Rattle.amqp_decode.specs.Faults.{fault_in, fault_in_item, fault_of_values}
+use Rattle.amqp_decode.specs.Places.{skips, spot_in, spot_in_item, spot_of_values}
 use Rattle.amqp_decode.proofs.Counts.{Remains}
 use Rattle.amqp_decode.proofs.read.+read.Given as goal
 
@@ -22,26 +23,35 @@ decreases-push_value l = 9 * l.depth
 abbrev pub decreases-read_items : goal.decreases-read_items
 decreases-read_items l = 9 * l.depth + 1
 
+abbrev pub decreases-check_each : goal.decreases-check_each
+decreases-check_each l = 9 * l.depth + 1
+
 abbrev pub decreases-read_list : goal.decreases-read_list
 decreases-read_list l = 9 * l.depth + 2
 
 abbrev pub decreases-read_entries : goal.decreases-read_entries
 decreases-read_entries l = 9 * l.depth + 2
 
+abbrev pub decreases-check_values : goal.decreases-check_values
+decreases-check_values l = 9 * l.depth + 2
+
+abbrev pub decreases-check_items : goal.decreases-check_items
+decreases-check_items l = 9 * l.depth + 2
+
 abbrev pub decreases-read_array : goal.decreases-read_array
-decreases-read_array l = 9 * l.depth + 2
+decreases-read_array l = 9 * l.depth + 3
 
 abbrev pub decreases-read_content : goal.decreases-read_content
-decreases-read_content l = 9 * l.depth + 3
+decreases-read_content l = 9 * l.depth + 4
 
 abbrev pub decreases-read_named : goal.decreases-read_named
-decreases-read_named l = 9 * l.depth + 4
+decreases-read_named l = 9 * l.depth + 5
 
 abbrev pub decreases-read_described : goal.decreases-read_described
-decreases-read_described l = 9 * l.depth + 4
+decreases-read_described l = 9 * l.depth + 5
 
 abbrev pub decreases-read_after_code : goal.decreases-read_after_code
-decreases-read_after_code l = 9 * l.depth + 5
+decreases-read_after_code l = 9 * l.depth + 6
 
 -- The remaining bytes, after the elements so far, give the complete list, and contain the elements
 -- without bytes that remain to be taken from the limit.
@@ -51,6 +61,8 @@ invariant-read_list-loop-read l = record {
   limit : Remains l.initial.limit l.limit (sum_of (elements_without_bytes l.depth) (parse l.depth) l.count l.body)
       (sum_of (elements_without_bytes l.depth) (parse l.depth) (l.count - l.read) l.rest);
   fault : fault_of_values (fault_in l.depth) (parse l.depth) (l.count - l.read) l.rest ≡ fault_of_values (fault_in l.depth) (parse l.depth) l.count l.body;
+  spot : (after : ℕ) → spot_of_values (spot_in l.depth) (parse l.depth) l.depth (l.count - l.read) after l.rest
+      ≡ spot_of_values (spot_in l.depth) (parse l.depth) l.depth l.count after l.body;
 }
 
 abbrev pub invariant-read_entries-loop : goal.invariant-read_entries-loop
@@ -59,6 +71,8 @@ invariant-read_entries-loop l = record {
   limit : Remains l.initial.limit l.limit (sum_of (elements_without_bytes l.depth) (parse l.depth) l.count l.body)
       (sum_of (elements_without_bytes l.depth) (parse l.depth) (2 * (l.end - l.counter)) l.rest);
   fault : fault_of_values (fault_in l.depth) (parse l.depth) (2 * (l.end - l.counter)) l.rest ≡ fault_of_values (fault_in l.depth) (parse l.depth) l.count l.body;
+  spot : (after : ℕ) → spot_of_values (spot_in l.depth) (parse l.depth) l.depth (2 * (l.end - l.counter)) after l.rest
+      ≡ spot_of_values (spot_in l.depth) (parse l.depth) l.depth l.count after l.body;
 }
 
 abbrev pub invariant-read_items-loop : goal.invariant-read_items-loop
@@ -68,4 +82,28 @@ invariant-read_items-loop l = record {
       (sum_of (in_payload (content_without_bytes l.depth) l.code) (payload_in (parse_content l.depth) l.code) (l.left - l.counter) l.rest);
   fault : fault_of_values (fault_in_item l.depth l.code) (payload_in (parse_content l.depth) l.code) (l.left - l.counter) l.rest
       ≡ fault_of_values (fault_in_item l.depth l.code) (payload_in (parse_content l.depth) l.code) l.count l.payloads;
+  spot : (after : ℕ) → spot_of_values (spot_in_item l.depth l.code) (payload_in (parse_content l.depth) l.code) l.depth (l.left - l.counter) after l.rest
+      ≡ spot_of_values (spot_in_item l.depth l.code) (payload_in (parse_content l.depth) l.code) l.depth l.count after l.payloads;
+}
+
+-- The same of what is left after the values so far.
+abbrev pub invariant-check_values-loop : goal.invariant-check_values-loop
+invariant-check_values-loop l = record {
+  kept : skips (parse l.depth) (l.count - l.counter) l.rest ≡ skips (parse l.depth) l.count l.body;
+  limit : Remains l.initial.limit l.limit (sum_of (elements_without_bytes l.depth) (parse l.depth) l.count l.body)
+      (sum_of (elements_without_bytes l.depth) (parse l.depth) (l.count - l.counter) l.rest);
+  fault : fault_of_values (fault_in l.depth) (parse l.depth) (l.count - l.counter) l.rest ≡ fault_of_values (fault_in l.depth) (parse l.depth) l.count l.body;
+  spot : (after : ℕ) → spot_of_values (spot_in l.depth) (parse l.depth) l.depth (l.count - l.counter) after l.rest
+      ≡ spot_of_values (spot_in l.depth) (parse l.depth) l.depth l.count after l.body;
+}
+
+abbrev pub invariant-check_each-loop : goal.invariant-check_each-loop
+invariant-check_each-loop l = record {
+  kept : skips (payload_in (parse_content l.depth) l.code) (l.count - l.counter) l.rest ≡ skips (payload_in (parse_content l.depth) l.code) l.count l.payloads;
+  limit : Remains l.initial.limit l.limit (sum_of (in_payload (content_without_bytes l.depth) l.code) (payload_in (parse_content l.depth) l.code) l.count l.payloads)
+      (sum_of (in_payload (content_without_bytes l.depth) l.code) (payload_in (parse_content l.depth) l.code) (l.count - l.counter) l.rest);
+  fault : fault_of_values (fault_in_item l.depth l.code) (payload_in (parse_content l.depth) l.code) (l.count - l.counter) l.rest
+      ≡ fault_of_values (fault_in_item l.depth l.code) (payload_in (parse_content l.depth) l.code) l.count l.payloads;
+  spot : (after : ℕ) → spot_of_values (spot_in_item l.depth l.code) (payload_in (parse_content l.depth) l.code) l.depth (l.count - l.counter) after l.rest
+      ≡ spot_of_values (spot_in_item l.depth l.code) (payload_in (parse_content l.depth) l.code) l.depth l.count after l.payloads;
 }

@@ -6,7 +6,12 @@ use Rattle.amqp_decode.specs.WithoutBytes.{content_without_bytes, in_payload}
 use Rattle.amqp_decode.proofs.Steps.{item-found, values-and_then}
 use Rattle.amqp_decode.specs.Faults.{fault_in_item}
 use Rattle.amqp_decode.proofs.Counts.{item-count, sum-none}
+use Rattle.amqp_decode.specs.Places.{spot_in_item}
 use Rattle.amqp_decode.proofs.FaultLemmas.{values-step}
+use Rattle.amqp_decode.proofs.PlaceSteps.{spots-step}
+use Rattle.amqp_decode.proofs.PlaceBounds.{content-inside}
+use Rattle.amqp_decode.proofs.Built.{built-all}
+use Rattle.amqp_decode.proofs.DescriptorKinds.{other-there}
 use Rattle.amqp_decode.proofs.run.read_fixed_run.Goals as goal
 
 pub loop-read-preserved : goal.loop-read-preserved
@@ -26,4 +31,6 @@ loop-read-preserved c =
       values = rw pushed (step ∙ c.loop-read.invariant.values);
       none = sum-none (in_payload (content_without_bytes c.args.depth) c.args.code) (payload_in (parse_content c.args.depth) c.args.code) c.args.count c.loop-read.read c.loop-read.rest.now c.in-Some.after.now (tree_of c.in-Some.value) _ c.loop-read-test.true item none c.loop-read.invariant.none;
       faults = values-step (fault_in_item c.args.depth c.args.code) (payload_in (parse_content c.args.depth) c.args.code) c.args.count c.loop-read.read c.loop-read.rest.now c.in-Some.after.now (tree_of c.in-Some.value) c.loop-read-test.true item ∙ c.loop-read.invariant.faults;
+      spots = λ after. spots-step (spot_in_item c.args.depth c.args.code) (payload_in (parse_content c.args.depth) c.args.code) c.args.depth after c.args.count c.loop-read.read c.loop-read.rest.now c.in-Some.after.now (tree_of c.in-Some.value) c.loop-read-test.true item
+          ∙ c.loop-read.invariant.spots after;
     }

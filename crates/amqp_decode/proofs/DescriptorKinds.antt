@@ -1,4 +1,4 @@
--- Tests of scalars and descriptors.
+-- Scalars that are not descriptors.
 use Rattle.std.proofs.Common.{◌≡◌, ℕ, zero, suc, Bool, true, false, List, [], ◌∷◌, length, Option, Some, None, is_some, if◌then◌else◌, ◌==◌, refl, sym, ap, ◌∙◌, arith}
 use Rattle.std.proofs.lemmas.Grind.{common_steps}
 use Rattle.std.specs.Int.{w8, w16, w32, w64, from_be_bytes, cast_signed}
@@ -13,53 +13,6 @@ use Rattle.amqp_decode.specs.Codes.{primitive_of}
 use Rattle.amqp_decode.specs.Scalars.{and_then, scalar_from, single, exact, truth, character, is_scalar_value, text, scalar_in, scalar_tree}
 use Rattle.amqp_decode.specs.Parsed.{content_at, descriptor_at, tree_descriptor, parsed_descriptor}
 use Rattle.amqp_decode.specs.Places.{is_text, names_descriptor}
-
-text-no : (b : Bool) (x : Scalar) → false ≡ is_some (if b then Some x else None) → b ≡ false
-text-no true x e = absurd cc
-text-no false x e = refl
-
-pub text-invalid : (c : EncodingCodes) (bs : List ℕ) → true ≡ is_text c → false ≡ is_some (scalar_in c bs) → is_utf8 bs ≡ false
-unfolding scalar_in
-text-invalid code.Null bs is bad = absurd cc
-text-invalid code.BooleanTrue bs is bad = absurd cc
-text-invalid code.BooleanFalse bs is bad = absurd cc
-text-invalid code.Uint0 bs is bad = absurd cc
-text-invalid code.Ulong0 bs is bad = absurd cc
-text-invalid code.List0 bs is bad = absurd cc
-text-invalid code.Ubyte bs is bad = absurd cc
-text-invalid code.Byte bs is bad = absurd cc
-text-invalid code.SmallUint bs is bad = absurd cc
-text-invalid code.SmallUlong bs is bad = absurd cc
-text-invalid code.SmallInt bs is bad = absurd cc
-text-invalid code.SmallLong bs is bad = absurd cc
-text-invalid code.Boolean bs is bad = absurd cc
-text-invalid code.Ushort bs is bad = absurd cc
-text-invalid code.Short bs is bad = absurd cc
-text-invalid code.Uint bs is bad = absurd cc
-text-invalid code.Int bs is bad = absurd cc
-text-invalid code.Float bs is bad = absurd cc
-text-invalid code.Char bs is bad = absurd cc
-text-invalid code.Decimal32 bs is bad = absurd cc
-text-invalid code.Ulong bs is bad = absurd cc
-text-invalid code.Long bs is bad = absurd cc
-text-invalid code.Double bs is bad = absurd cc
-text-invalid code.Timestamp bs is bad = absurd cc
-text-invalid code.Decimal64 bs is bad = absurd cc
-text-invalid code.Decimal128 bs is bad = absurd cc
-text-invalid code.Uuid bs is bad = absurd cc
-text-invalid code.Vbin8 bs is bad = absurd cc
-text-invalid code.Str8 bs is bad = text-no (is_utf8 bs) (string bs) bad
-text-invalid code.Sym8 bs is bad = text-no (is_utf8 bs) (symbol bs) bad
-text-invalid code.Vbin32 bs is bad = absurd cc
-text-invalid code.Str32 bs is bad = text-no (is_utf8 bs) (string bs) bad
-text-invalid code.Sym32 bs is bad = text-no (is_utf8 bs) (symbol bs) bad
-text-invalid code.List8 bs is bad = absurd cc
-text-invalid code.Map8 bs is bad = absurd cc
-text-invalid code.List32 bs is bad = absurd cc
-text-invalid code.Map32 bs is bad = absurd cc
-text-invalid code.Array8 bs is bad = absurd cc
-text-invalid code.Array32 bs is bad = absurd cc
-text-invalid code.DescribedType bs is bad = absurd cc
 
 abbrev with_left : List ℕ → Descriptor → Option (Descriptor × List ℕ)
 with_left r d = Some (d, r)
@@ -143,72 +96,7 @@ other-descriptor code.Array8 bs r e = refl
 other-descriptor code.Array32 bs r e = refl
 other-descriptor code.DescribedType bs r e = refl
 
--- A ulong or a symbol.
-from-found : {A : Type 0} (k : A → Scalar) (d : A → Descriptor) (o : Option A) (r : List ℕ) (x : Scalar) → ((a : A) → tree_descriptor (scalar (k a)) ≡ Some (d a))
-    → scalar_from k o ≡ Some x → (y : Descriptor) × (and_then (and_then (and_then (scalar_from k o) scalar_tree) tree_descriptor) (with_left r) ≡ Some (y, r))
-from-found k d None r x h e = absurd cc
-from-found k d (Some a) r x h e = (d a, rw (h a) refl)
-
-symbol-found : (bs r : List ℕ) (x : Scalar) → text symbol bs ≡ Some x
-    → (y : Descriptor) × (and_then (and_then (and_then (text symbol bs) scalar_tree) tree_descriptor) (with_left r) ≡ Some (y, r))
-symbol-found bs r x e = by_test (is_utf8 bs) e
-  where
-    by_test : (b : Bool) → (if b then Some (symbol bs) else None) ≡ Some x
-        → (y : Descriptor) × (and_then (and_then (and_then (if b then Some (symbol bs) else None) scalar_tree) tree_descriptor) (with_left r) ≡ Some (y, r))
-    by_test true e = (tree.name bs, refl)
-    by_test false e = absurd cc
-
-pub named-descriptor : (c : EncodingCodes) (bs r : List ℕ) (x : Scalar) → true ≡ names_descriptor c → scalar_in c bs ≡ Some x
-    → (y : Descriptor) × (parsed_descriptor c (bs, r) ≡ Some (y, r))
-unfolding scalar_in
-named-descriptor code.Null bs r x is e = absurd cc
-named-descriptor code.BooleanTrue bs r x is e = absurd cc
-named-descriptor code.BooleanFalse bs r x is e = absurd cc
-named-descriptor code.Uint0 bs r x is e = absurd cc
-named-descriptor code.Ulong0 bs r x is e = (tree.code 0, refl)
-named-descriptor code.List0 bs r x is e = absurd cc
-named-descriptor code.Ubyte bs r x is e = absurd cc
-named-descriptor code.Byte bs r x is e = absurd cc
-named-descriptor code.SmallUint bs r x is e = absurd cc
-named-descriptor code.SmallUlong bs r x is e = from-found ulong tree.code (single bs) r x (λ _. refl) e
-named-descriptor code.SmallInt bs r x is e = absurd cc
-named-descriptor code.SmallLong bs r x is e = absurd cc
-named-descriptor code.Boolean bs r x is e = absurd cc
-named-descriptor code.Ushort bs r x is e = absurd cc
-named-descriptor code.Short bs r x is e = absurd cc
-named-descriptor code.Uint bs r x is e = absurd cc
-named-descriptor code.Int bs r x is e = absurd cc
-named-descriptor code.Float bs r x is e = absurd cc
-named-descriptor code.Char bs r x is e = absurd cc
-named-descriptor code.Decimal32 bs r x is e = absurd cc
-named-descriptor code.Ulong bs r x is e = from-found (λ b. ulong (from_be_bytes w64 b)) (λ b. tree.code (from_be_bytes w64 b)) (exact 8 bs) r x (λ _. refl) e
-named-descriptor code.Long bs r x is e = absurd cc
-named-descriptor code.Double bs r x is e = absurd cc
-named-descriptor code.Timestamp bs r x is e = absurd cc
-named-descriptor code.Decimal64 bs r x is e = absurd cc
-named-descriptor code.Decimal128 bs r x is e = absurd cc
-named-descriptor code.Uuid bs r x is e = absurd cc
-named-descriptor code.Vbin8 bs r x is e = absurd cc
-named-descriptor code.Str8 bs r x is e = absurd cc
-named-descriptor code.Sym8 bs r x is e = symbol-found bs r x e
-named-descriptor code.Vbin32 bs r x is e = absurd cc
-named-descriptor code.Str32 bs r x is e = absurd cc
-named-descriptor code.Sym32 bs r x is e = symbol-found bs r x e
-named-descriptor code.List8 bs r x is e = absurd cc
-named-descriptor code.Map8 bs r x is e = absurd cc
-named-descriptor code.List32 bs r x is e = absurd cc
-named-descriptor code.Map32 bs r x is e = absurd cc
-named-descriptor code.Array8 bs r x is e = absurd cc
-named-descriptor code.Array32 bs r x is e = absurd cc
-named-descriptor code.DescribedType bs r x is e = absurd cc
-
 module _ (b : ℕ) (s : List ℕ) (c : EncodingCodes) (x r : List ℕ) (is : primitive_of b ≡ Some c) (e : content_at (category (code_of c)) s ≡ Some (x, r)) where
   pub other-there : false ≡ names_descriptor c → descriptor_at (b ∷ s) ≡ None
   unfolding descriptor_at
   other-there other = rw (is, e) (other-descriptor c x r other)
-
-  pub found-there : true ≡ names_descriptor c → (v : Scalar) → scalar_in c x ≡ Some v → (d : Descriptor) × (descriptor_at (b ∷ s) ≡ Some (d, r))
-  unfolding descriptor_at
-  found-there named v found =
-      let h = named-descriptor c x r v named found in
-      (h.0, rw (is, e) h.1)

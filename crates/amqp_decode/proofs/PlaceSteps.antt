@@ -2,24 +2,28 @@
 use Rattle.std.proofs.Math.Nat.{zero-min}
 use Rattle.std.proofs.Common.{◌≡◌, ℕ, zero, suc, min, ◌+◌, ◌-◌, ◌/◌, ◌%◌, ◌*◌, ◌<◌, ◌≤◌, Bool, true, false, IsTrue, List, [], ◌∷◌, ◌++◌, length, Option, Some, None, Result, Ok, Err, IfOk, OnOk, OnErr, if◌then◌else◌, ◌==◌, refl, sym, ap, ◌∙◌, arith, length-append}
 use Rattle.amqp_data.specs.FormatCode.{code_of}
+use Rattle.amqp_data.specs.declared.error.Error.TheVariants.{InvalidValue}
 use Rattle.amqp_data.specs.declared.format_code.EncodingCodes.{EncodingCodes}
+use Rattle.amqp_data.specs.declared.format_code.EncodingCodes.TheVariants as code
 use Rattle.amqp_frame.specs.Code.{category}
 use Rattle.amqp_frame.specs.declared.code.Category.{Category}
 use Rattle.amqp_ser.specs.Tree as tree
 use Rattle.amqp_ser.specs.Tree.{Scalar, Descriptor, Tree, Pairs, trees_of, no_pairs}
 use Rattle.amqp_value.specs.Image.{insert_tree}
-use Rattle.amqp_decode.specs.Codes.{primitive_of, shape_of_code}
+use Rattle.amqp_decode.specs.Codes.{is_primitive, primitive_of, shape_of_code}
 use Rattle.amqp_decode.specs.Scalars.{and_then, scalar_in, scalar_tree}
 use Rattle.amqp_decode.specs.Spells.{IsNumber, IsPayload, IsCounted}
 use Rattle.amqp_decode.specs.Parsed.{FrameReader, ContentReader, content_at, counted_in, descriptor_at, gather, insert, all, with_rest, payload_in, parse_list, parse_map, parse_array, content_of, frame_in, parse, parse_content}
 use Rattle.amqp_decode.specs.Places.{Finder, PayloadFinder, Spot, skips, spot_of_values, spot_of_payload, spot_of_array, spot_of_descriptor, spot_in, spot_in_item, spot_around, content_spot, at_start}
-use Rattle.amqp_decode.specs.WithoutBytes.{has_no_payload}
+use Rattle.amqp_decode.specs.Faults.{Fault, fault_of_values}
+use Rattle.amqp_decode.specs.WithoutBytes.{Counter, content_around, content_without_bytes, elements_without_bytes, has_no_payload, in_payload, sum_of}
 use Rattle.amqp_decode.specs.declared.payload_shape.Count.{Count}
 use Rattle.amqp_decode.specs.declared.payload_shape.PayloadShape.TheVariants as shape
+use Rattle.amqp_decode.proofs.CodeLemmas.{primitive-found, primitive-nonzero}
 use Rattle.amqp_decode.proofs.Finds.{cut-seam}
 use Rattle.amqp_decode.proofs.Means.{Says, payload-says, counted-says}
 use Rattle.amqp_decode.proofs.Whole.{nil-from_length}
-use Rattle.amqp_decode.proofs.Steps.{parse-at, parse_content-at, array-found, array-none, not-zero}
+use Rattle.amqp_decode.proofs.Steps.{array-found, array-none, not-zero}
 
 -- Lengths of what is read.
 payload-len : (k : Category) (a x : List ℕ) → IsPayload k a x → length x ≤ length a
@@ -190,6 +194,31 @@ spots-same : (c : Finder) (f : FrameReader) (level after : ℕ) (s : List ℕ) (
 spots-same c f level after s t e zero = refl
 spots-same c f level after s t e (suc n) = rw e (spots-same c f level after s t e n)
 
+faults-same : (c : Fault) (f : FrameReader) (s : List ℕ) (t : Tree) → f s ≡ Some (t, s) → (n : ℕ) → fault_of_values c f n s ≡ InvalidValue
+faults-same c f s t e zero = refl
+faults-same c f s t e (suc n) = rw e (faults-same c f s t e n)
+
+no-elements : (d : ℕ) (c : EncodingCodes) → has_no_payload c ≡ true → content_around d c [] ≡ 0
+unfolding counted_in
+no-elements d code.List0 none = refl
+no-elements d code.List8 none = absurd cc
+no-elements d code.List32 none = absurd cc
+no-elements d code.Map8 none = absurd cc
+no-elements d code.Map32 none = absurd cc
+no-elements d code.Array8 none = absurd cc
+no-elements d code.Array32 none = absurd cc
+no-elements d _ none = refl
+
+without-elements : (d : ℕ) (c : EncodingCodes) → has_no_payload c ≡ true → content_without_bytes d c [] ≡ 0
+unfolding content_without_bytes elements_without_bytes
+without-elements zero c none = refl
+without-elements (suc d) c none = no-elements d c none
+
+sums-none : (k : Counter) (f : FrameReader) (s : List ℕ) → k s ≡ 0 → (o : Option Tree) → f s ≡ and_then o (with_rest s) → (n : ℕ) → sum_of k f n s ≡ 0
+sums-none k f s z o e zero = refl
+sums-none k f s z None e (suc n) = rw (z, e) refl
+sums-none k f s z (Some t) e (suc n) = rw (z, e) (sums-none k f s z (Some t) e n)
+
 module _ (d : ℕ) (c : EncodingCodes) (s : List ℕ) (none : has_no_payload c ≡ true) where
   no-content : content_at (category (code_of c)) s ≡ Some ([], s)
   unfolding category
@@ -214,8 +243,22 @@ module _ (d : ℕ) (c : EncodingCodes) (s : List ℕ) (none : has_no_payload c �
       by_item None e m = rw e refl
       by_item (Some t) e m = spots-same k (payload_in (parse_content d) c) level after s t e (suc m) ∙ sym (spots-same k (payload_in (parse_content d) c) level after s t e 1)
 
-abbrev spot : ℕ → ℕ → Spot
-spot left level = (left, level)
+  pub first-faults : (k : Fault) (n m : ℕ) → m ≡ min n 1 → fault_of_values k (payload_in (parse_content d) c) m s ≡ fault_of_values k (payload_in (parse_content d) c) n s
+  first-faults k n m one = ap (λ i. fault_of_values k (payload_in (parse_content d) c) i s) one ∙ first-of (λ i. fault_of_values k (payload_in (parse_content d) c) i s) (by_item (parse_content d c []) left) n
+    where
+      by_item : (o : Option Tree) → payload_in (parse_content d) c s ≡ and_then o (with_rest s)
+          → (m : ℕ) → fault_of_values k (payload_in (parse_content d) c) (suc m) s ≡ fault_of_values k (payload_in (parse_content d) c) 1 s
+      by_item None e m = rw e refl
+      by_item (Some t) e m = faults-same k (payload_in (parse_content d) c) s t e (suc m) ∙ sym (faults-same k (payload_in (parse_content d) c) s t e 1)
+
+  pub first-sums : (n m : ℕ) → sum_of (in_payload (content_without_bytes d) c) (payload_in (parse_content d) c) m s ≡ sum_of (in_payload (content_without_bytes d) c) (payload_in (parse_content d) c) n s
+  first-sums n m = no-sum m ∙ sym (no-sum n)
+    where
+      zero-here : in_payload (content_without_bytes d) c s ≡ 0
+      zero-here = rw no-content (without-elements d c none)
+
+      no-sum : (n : ℕ) → sum_of (in_payload (content_without_bytes d) c) (payload_in (parse_content d) c) n s ≡ 0
+      no-sum n = sums-none (in_payload (content_without_bytes d) c) (payload_in (parse_content d) c) s zero-here (parse_content d c []) left n
 
 -- The depth.
 pub spot-zero : (d a : ℕ) (s : List ℕ) → d ≡ 0 → (length s + a, d) ≡ spot_in d a s
@@ -243,60 +286,39 @@ item-spot-at (suc d) c a s lt =
     rw e refl
 
 -- The first byte of a value.
-pub spot-empty : (d a : ℕ) (s : List ℕ) → 0 < d → length s ≡ 0 → (length s + a, d) ≡ spot_in d a s
+pub spot-empty : (d a : ℕ) (s : List ℕ) → 0 < d → length s ≡ 0 → (a, d) ≡ spot_in d a s
 spot-empty d a (b ∷ s) lt e = absurd (omega arith)
 spot-empty d a [] lt e =
     let level : suc (d - 1) ≡ d = omega arith in
-    let none : 0 + a ≡ a = omega arith in
-    ap (λ n. spot n d) none ∙ sym (ap (λ l. spot a l) level) ∙ spot-at d a [] lt
+    sym (ap (λ l. spot a l) level) ∙ spot-at d a [] lt
+  where
+    spot : ℕ → ℕ → Spot
+    spot left level = (left, level)
 
-module _ (d a b : ℕ) (s : List ℕ) (lt : 0 < d) (some : b ≡ 0 → ⊥) where
-  pub spot-code : (c : EncodingCodes) → primitive_of b ≡ Some c → spot_of_payload (content_spot (d - 1)) d c a s ≡ spot_in d a (b ∷ s)
-  spot-code c is =
-      let level : suc (d - 1) ≡ d = omega arith in
-      let inside : spot_around (d - 1) a (b ∷ s) ≡ spot_of_payload (content_spot (d - 1)) (suc (d - 1)) c a s = rw (not-zero b some, is) refl in
-      sym (ap (λ l. spot_of_payload (content_spot (d - 1)) l c a s) level) ∙ sym inside ∙ spot-at d a (b ∷ s) lt
+module _ (d a b : ℕ) (s : List ℕ) where
+  pub byte-spot : (c : EncodingCodes) → b ≡ code_of c → IsTrue (is_primitive c) → spot_of_payload (content_spot d) (suc d) c a s ≡ spot_around d a (b ∷ s)
+  byte-spot c is ok = rw (is, primitive-nonzero c ok, primitive-found c ok) refl
 
-  pub spot-no_code : primitive_of b ≡ None → (suc (length s) + a, d) ≡ spot_in d a (b ∷ s)
-  spot-no_code is =
-      let level : suc (d - 1) ≡ d = omega arith in
-      let inside : spot_around (d - 1) a (b ∷ s) ≡ (suc (length s) + a, suc (d - 1)) = rw (not-zero b some, is) refl in
-      sym (ap (λ l. spot (suc (length s) + a) l) level) ∙ sym inside ∙ spot-at d a (b ∷ s) lt
+  pub spot-code : (b ≡ 0 → ⊥) → (c : EncodingCodes) → primitive_of b ≡ Some c → spot_of_payload (content_spot d) (suc d) c a s ≡ spot_around d a (b ∷ s)
+  spot-code some c is = rw (not-zero b some, is) refl
 
-  pub parse-code : (c : EncodingCodes) → primitive_of b ≡ Some c → payload_in (content_of (parse (d - 1)) (parse_content (d - 1))) c s ≡ parse d (b ∷ s)
-  parse-code c is =
-      let inside : frame_in (parse (d - 1)) (parse_content (d - 1)) (b ∷ s) ≡ payload_in (content_of (parse (d - 1)) (parse_content (d - 1))) c s = rw (not-zero b some, is) refl in
-      sym (parse-at d (b ∷ s) lt ∙ inside)
-
-  pub parse-no_code : primitive_of b ≡ None → parse d (b ∷ s) ≡ None
-  parse-no_code is =
-      let inside : frame_in (parse (d - 1)) (parse_content (d - 1)) (b ∷ s) ≡ None = rw (not-zero b some, is) refl in
-      parse-at d (b ∷ s) lt ∙ inside
+  pub spot-no_code : (b ≡ 0 → ⊥) → primitive_of b ≡ None → (suc (length s) + a, suc d) ≡ spot_around d a (b ∷ s)
+  spot-no_code some is = rw (not-zero b some, is) refl
 
 -- A described value.
-pub described-ok : {T E : Type 0} (d : ℕ) (s rest : List ℕ) (r : Result T E) (now : T → List ℕ) → ((x : Descriptor) × (descriptor_at s ≡ Some (x, rest)))
-    → IfOk r (λ v. (t : Tree) × (parse d rest ≡ Some (t, now v))) → IfOk r (λ v. (t : Tree) × (frame_in (parse d) (parse_content d) (0 ∷ s) ≡ Some (t, now v)))
-described-ok d s rest (Ok v) now e h = (tree.described e.0 h.0, rw (e.1, h.1) refl)
-described-ok d s rest (Err g) now e h = tt
+pub described-spot : (d a : ℕ) (s rest : List ℕ) (x : Descriptor) → descriptor_at s ≡ Some (x, rest) → spot_in d a rest ≡ spot_around d a (0 ∷ s)
+described-spot d a s rest x e = rw e refl
 
--- What follows from success, and from an error.
-pub on-ok : {T E P Q : Type 0} (r : Result T E) → (P → Q) → OnOk r P → OnOk r Q
-on-ok (Ok v) f h = f h
-on-ok (Err e) f h = h
+pub descriptor-spot : (d a : ℕ) (s : List ℕ) → descriptor_at s ≡ None → spot_of_descriptor d a s ≡ spot_around d a (0 ∷ s)
+descriptor-spot d a s e = rw e refl
 
-pub on-err : {T E P Q : Type 0} (r : Result T E) → (P → Q) → OnErr r P → OnErr r Q
-on-err (Ok v) f h = h
-on-err (Err e) f h = f h
+-- A payload, by its content.
+module _ (k : PayloadFinder) (level : ℕ) (c : EncodingCodes) (a : ℕ) (s : List ℕ) where
+  pub payload-spot : (content rest : List ℕ) → content_at (category (code_of c)) s ≡ Some (content, rest) → k c (length rest + a) content ≡ spot_of_payload k level c a s
+  payload-spot content rest e = rw e refl
 
--- An array element.
-module _ (d : ℕ) (c : EncodingCodes) (s : List ℕ) (lt : 0 < d) where
-  pub item-as : payload_in (content_of (parse (d - 1)) (parse_content (d - 1))) c s ≡ payload_in (parse_content d) c s
-  item-as = by_content (content_at (category (code_of c)) s)
-    where
-      by_content : (o : Option (List ℕ × List ℕ))
-          → and_then o (λ p. and_then (content_of (parse (d - 1)) (parse_content (d - 1)) c p.0) (with_rest p.1)) ≡ and_then o (λ p. and_then (parse_content d c p.0) (with_rest p.1))
-      by_content None = refl
-      by_content (Some p) = ap (λ q. and_then q (with_rest p.1)) (sym (parse_content-at d c p.0 lt))
+  pub payload-ends : content_at (category (code_of c)) s ≡ None → (a, level) ≡ spot_of_payload k level c a s
+  payload-ends e = rw e refl
 
 -- A content, by its shape.
 module _ (d : ℕ) (c : EncodingCodes) (s : List ℕ) where

@@ -1,6 +1,0 @@
-use Rattle.std.proofs.Common.{rules}
-use Rattle.amqp_decode.proofs.SkipScalars.{text-invalid}
-use Rattle.amqp_decode.proofs.scalar_check.check_scalar.Goals as goal
-
-pub text_spot-requires-clause-invalid : goal.text_spot-requires-clause-invalid
-text_spot-requires-clause-invalid c = text-invalid c.args.code c.args.content.now (search rules) (search rules)
