@@ -1,11 +1,15 @@
 use Rattle.std.proofs.Common.{inl, inr, refl, ◌∙◌}
-use Rattle.amqp_de.proofs.defaulted.named_or.Goals as goal
+use Rattle.std.proofs.lemmas.Result.{IfOk-weaker, IfErr-weaker}
+use Rattle.amqp_de.proofs.field.named_value.Goals as goal
 
 pub returns-in-None-clause-ok : goal.returns-in-None-clause-ok
-returns-in-None-clause-ok g c ps h = let (old, more) = c.in-None.ensures.none ps h in (ps, old, inr (refl, c.from_number.ensures, more))
+returns-in-None-clause-ok g c = IfOk-weaker c.read_absent.result _ _ (λ x absent ps h. let (old, more) = c.in-None.ensures.none ps h in (ps, old, inr (refl, absent, more))) c.read_absent.ensures.ok
 
 pub returns-in-None-clause-whole : goal.returns-in-None-clause-whole
-returns-in-None-clause-whole g c w = let (are, none, after) = c.in-None.ensures.none_whole w in (are, after)
+returns-in-None-clause-whole g c = IfOk-weaker c.read_absent.result _ _ (λ x absent w. let (are, none, after) = c.in-None.ensures.none_whole w in (are, after)) c.read_absent.ensures.ok
+
+pub returns-in-None-clause-err : goal.returns-in-None-clause-err
+returns-in-None-clause-err g c = IfErr-weaker c.read_absent.result _ _ (λ e must w. let (are, none, after) = c.in-None.ensures.none_whole w in inr (none, must)) c.read_absent.ensures.err
 
 pub returns-clause-ok : goal.returns-clause-ok
 returns-clause-ok g c ps h =
@@ -20,7 +24,8 @@ returns-clause-whole g c w =
 
 pub returns-in-Err-clause-err : goal.returns-in-Err-clause-err
 returns-in-Err-clause-err g c w =
-    let (whole, are, at, after) = c.in-Some.ensures.some_whole w in (
+    let (whole, are, at, after) = c.in-Some.ensures.some_whole w in
+    inl (
       g.S.Source.value c.in-Some.entry,
       at,
       elim (c.in-Err.ensures.read whole) [
