@@ -28,9 +28,11 @@ returns-in-Err-clause-err g c w =
     inl (
       g.S.Source.value c.in-Some.entry,
       at,
-      elim (c.in-Err.ensures.read whole) [
-        | inl m ↦ inl (c.placed.ensures ∙ m)
-        | inr n ↦ inr n
-      ],
-      λ x p e. c.placed.ensures ∙ c.in-Err.ensures.law x p e whole,
+      (
+        elim (c.in-Err.ensures.read whole) [
+          | inl m ↦ inl (c.placed.ensures ∙ m)
+          | inr n ↦ inr n
+        ],
+        λ x p e. c.placed.ensures ∙ c.in-Err.ensures.law x p e whole,
+      ),
     )

@@ -28,9 +28,11 @@ returns-in-Err-clause-err g c w =
       g.S.Source.value c.in-Some.element,
       _,
       s.2,
-      elim (c.in-Err.ensures.read s.0) [
-        | inl m ↦ inl (c.placed.ensures ∙ m)
-        | inr n ↦ inr n
-      ],
-      λ x p e. c.placed.ensures ∙ c.in-Err.ensures.law x p e s.0,
+      (
+        elim (c.in-Err.ensures.read s.0) [
+          | inl m ↦ inl (c.placed.ensures ∙ m)
+          | inr n ↦ inr n
+        ],
+        λ x p e. c.placed.ensures ∙ c.in-Err.ensures.law x p e s.0,
+      ),
     )

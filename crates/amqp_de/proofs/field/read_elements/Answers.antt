@@ -5,14 +5,14 @@ use Rattle.amqp_de.proofs.field.read_elements.Goals as goal
 pub returns-in-Err-clause-err : goal.returns-in-Err-clause-err
 returns-in-Err-clause-err g c w =
     elim (c.in-Err.ensures.err w) [
-      | inl (t, ts, e, why, law) ↦ elim why [ inl m ↦ inl m | inr none ↦ inr (field_first g.F.Field.absent c.args.name.now g.F.Field.reads (g.R.FieldSeeds.reads c.args.others.now) t _ ts e none) ]
+      | inl (t, ts, e, (why, law)) ↦ elim why [ inl m ↦ inl m | inr none ↦ inr (field_first g.F.Field.absent c.args.name.now g.F.Field.reads (g.R.FieldSeeds.reads c.args.others.now) t _ ts e none) ]
       | inr (e, must) ↦ inr (field_missing g.F.Field.absent c.args.name.now g.F.Field.reads (g.R.FieldSeeds.reads c.args.others.now) _ e (λ x. (must x).0))
     ]
 
 pub returns-in-Err-clause-law : goal.returns-in-Err-clause-law
 returns-in-Err-clause-law g c x p k w =
     elim (c.in-Err.ensures.err w) [
-      | inl (t, ts, e, why, law) ↦ law x.value p.0 (early_first (g.F.Field.present x.value, g.F.Field.image x.value) (g.R.FieldSeeds.images x.rest) t _ ts e k)
+      | inl (t, ts, e, (why, law)) ↦ law x.value p.0 (early_first (g.F.Field.present x.value, g.F.Field.image x.value) (g.R.FieldSeeds.images x.rest) t _ ts e k)
       | inr (e, must) ↦ early_missing (g.F.Field.present x.value, g.F.Field.image x.value) (g.R.FieldSeeds.images x.rest) _ e (must x.value).1 k
     ]
 

@@ -6,14 +6,14 @@ use Rattle.amqp_de.proofs.field.read_entries.Goals as goal
 pub returns-in-Err-clause-err : goal.returns-in-Err-clause-err
 returns-in-Err-clause-err g c w =
     elim (c.in-Err.ensures.err w) [
-      | inl (t, at, why, law) ↦ elim why [ inl m ↦ inl m | inr none ↦ inr (named_first g.F.Field.absent c.args.name.now g.F.Field.reads (g.R.FieldSeeds.reads c.args.others.now) _ t at none) ]
+      | inl (t, at, (why, law)) ↦ elim why [ inl m ↦ inl m | inr none ↦ inr (named_first g.F.Field.absent c.args.name.now g.F.Field.reads (g.R.FieldSeeds.reads c.args.others.now) _ t at none) ]
       | inr (e, must) ↦ inr (named_missing g.F.Field.absent c.args.name.now g.F.Field.reads (g.R.FieldSeeds.reads c.args.others.now) _ e (λ x. (must x).0))
     ]
 
 pub returns-in-Err-clause-law : goal.returns-in-Err-clause-law
 returns-in-Err-clause-law g c x p d e w =
     elim (c.in-Err.ensures.err w) [
-      | inl (t, at, why, law) ↦ law x.value p.0 (present_value c.args.name.now (g.F.Field.present x.value) (g.F.Field.image x.value) (g.R.FieldSeeds.names c.args.others.now) (g.R.FieldSeeds.images x.rest) _ t d e at)
+      | inl (t, at, (why, law)) ↦ law x.value p.0 (present_value c.args.name.now (g.F.Field.present x.value) (g.F.Field.image x.value) (g.R.FieldSeeds.names c.args.others.now) (g.R.FieldSeeds.images x.rest) _ t d e at)
       | inr (none, must) ↦ absurd (true≢false (sym (must x.value).1 ∙ not_present c.args.name.now (g.F.Field.present x.value) (g.F.Field.image x.value) (g.R.FieldSeeds.names c.args.others.now) (g.R.FieldSeeds.images x.rest) _ e none))
     ]
 
