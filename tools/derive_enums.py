@@ -15,7 +15,7 @@ SCALARS = {
     "Timestamp": ("Timestamp", "timestamp", "milliseconds_of"), "Uuid": ("Uuid", "uuid", "uuid_bytes"),
     "ByteBuf": ("Binary", "binary", "byte_buf_bytes"), "String": ("String", "string", "string_bytes"),
     "Symbol": ("Symbol", "symbol", "symbol_text")}
-PLACES = "first second third fourth fifth sixth seventh eighth ninth tenth".split()
+ORDINALS = "first second third fourth fifth sixth seventh eighth ninth tenth".split()
 # with more texts than these, `from_text` selects the variant
 MOST_TESTS = 8
 OPENED = "            Ok(read) => read,\n            Err(fault) => return Err(fault),\n        };\n"
@@ -26,21 +26,21 @@ def match_on(value, arms):
     return f"        match {value} {{\n{''.join(rows)}        }}\n"
 
 
-def place(at, value, is_rest=False):
+def alternative(at, value, is_rest=False):
     """The pattern of the alternative at a place, or of those after the first ones, and the same as a term."""
     if at > 10 or at == 10 and not is_rest:
-        inner = place(at - 10, value, is_rest)
+        inner = alternative(at - 10, value, is_rest)
         return f"{N.place}!(rest 10, {inner[0]})", f"rest10 ({inner[1]})"
     if is_rest:
         return f"{N.place}!(rest {at}, {value})", f"rest{at} {value}"
-    return f"{N.place}!({at}, {value})", f"{PLACES[at]} {value}"
+    return f"{N.place}!({at}, {value})", f"{ORDINALS[at]} {value}"
 
 
 def enum_record(t, arms):
     """The impl of Record of an enum. An arm is the variant in the logic, its values, the pattern and the body of its way back."""
-    term = "λ x. " + cases([(arm, place(at, values, rest)[1]) for at, (arm, values, _, _, rest) in enumerate(arms)])
-    back = [(place(at, pattern, rest)[0], body) for at, (_, _, pattern, body, rest) in enumerate(arms)]
-    back += [] if arms[-1][-1] else [(place(len(arms), "never", True)[0], "match never {}")]
+    term = "λ x. " + cases([(arm, alternative(at, values, rest)[1]) for at, (arm, values, _, _, rest) in enumerate(arms)])
+    back = [(alternative(at, pattern, rest)[0], body) for at, (_, _, pattern, body, rest) in enumerate(arms)]
+    back += [] if arms[-1][-1] else [(alternative(len(arms), "never", True)[0], "match never {}")]
     shape = f"<{t.name}Shape as {N.Shape}>::Value"
     return impl(N.Record, t, {"parts": term}, function("from_parts", [f"values: {shape}"], t.name, match_on("values", back)),
                 types=[("Values", shape)])

@@ -12,5 +12,5 @@ pub mod MapEntry
 pub mod MapIters
 pub mod MapLends
 pub mod Pairs
-pub mod Shown
+pub mod Displayed
 pub mod Text

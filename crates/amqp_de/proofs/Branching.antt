@@ -2,7 +2,7 @@
 use Rattle.std.proofs.Common.{◌≡◌, refl, sym, ◌∙◌, subst}
 use Rattle.amqp_ser.specs.Tree as tree
 use Rattle.amqp_ser.specs.Tree.{Descriptor, Tree}
-use Rattle.amqp_de.specs.Branches.{IsBranch, OnBranches, either, RestorableBranch, SameEither}
+use Rattle.amqp_de.specs.Branches.{IsBranch, OnBranches, either, IsRestorableBranch, AreSameEither}
 use Rattle.amqp_de.specs.declared.branches.Either.{Either}
 use Rattle.amqp_de.specs.declared.branches.Either.TheVariants.{This, Other}
 
@@ -16,24 +16,24 @@ module _ {A R : Type 0} (w : Descriptor) (P : Tree → A → Type 0) (Q : Descri
   other_refused n none (Other y) h = none y h.1
 
 module _ {A R : Type 0} (w : Descriptor) (label : R → Descriptor) (imageA : A → Tree) (imageR : R → Tree) (PA : A → Type 0) (PR : R → Type 0) (d : Descriptor) (t : Tree) where
-  pub this_memory : {M : Type 0} → d ≡ w → ((a : A) → PA a → t ≡ imageA a → M) → (x : Either A R) → RestorableBranch w label PA PR x
+  pub this_memory : {M : Type 0} → d ≡ w → ((a : A) → PA a → t ≡ imageA a → M) → (x : Either A R) → IsRestorableBranch w label PA PR x
       → d ≡ either (λ _. w) label x → t ≡ either imageA imageR x → M
   this_memory is law (This a) p e f = law a p f
   this_memory is law (Other b) p e f = absurd (p.0 (sym e ∙ is))
 
-  pub other_memory : {M : Type 0} → (¬ (d ≡ w)) → ((b : R) → PR b → d ≡ label b → t ≡ imageR b → M) → (x : Either A R) → RestorableBranch w label PA PR x
+  pub other_memory : {M : Type 0} → (¬ (d ≡ w)) → ((b : R) → PR b → d ≡ label b → t ≡ imageR b → M) → (x : Either A R) → IsRestorableBranch w label PA PR x
       → d ≡ either (λ _. w) label x → t ≡ either imageA imageR x → M
   other_memory n law (This a) p e f = absurd (n e)
   other_memory n law (Other b) p e f = law b p.1 e f
 
   module _ (S : A → A → Type 0) (T : R → R → Type 0) where
-    pub this_same : (y : A) → d ≡ w → ((a : A) → PA a → t ≡ imageA a → S y a) → (x : Either A R) → RestorableBranch w label PA PR x
-        → d ≡ either (λ _. w) label x → t ≡ either imageA imageR x → SameEither S T (This y) x
+    pub this_same : (y : A) → d ≡ w → ((a : A) → PA a → t ≡ imageA a → S y a) → (x : Either A R) → IsRestorableBranch w label PA PR x
+        → d ≡ either (λ _. w) label x → t ≡ either imageA imageR x → AreSameEither S T (This y) x
     this_same y is law (This a) p e f = law a p f
     this_same y is law (Other b) p e f = absurd (p.0 (sym e ∙ is))
 
-    pub other_same : (y : R) → (¬ (d ≡ w)) → ((b : R) → PR b → d ≡ label b → t ≡ imageR b → T y b) → (x : Either A R) → RestorableBranch w label PA PR x
-        → d ≡ either (λ _. w) label x → t ≡ either imageA imageR x → SameEither S T (Other y) x
+    pub other_same : (y : R) → (¬ (d ≡ w)) → ((b : R) → PR b → d ≡ label b → t ≡ imageR b → T y b) → (x : Either A R) → IsRestorableBranch w label PA PR x
+        → d ≡ either (λ _. w) label x → t ≡ either imageA imageR x → AreSameEither S T (Other y) x
     other_same y n law (This a) p e f = absurd (n e)
     other_same y n law (Other b) p e f = law b p.1 e f
 

@@ -1,16 +1,16 @@
 -- Scalars of one kind that are read as values with the same content.
 use Rattle.std.proofs.Common.{◌≡◌, ◌⊎◌, inl, inr, List, [], ◌∷◌, map, Result, Ok, Err, IfOk, IfErr, refl, sym, subst}
 use Rattle.std.specs.List.{AllZip, AllByRecursion}
-use Rattle.amqp_de.specs.Reads.{Always}
+use Rattle.amqp_de.specs.Reads.{HoldsAlways}
 use Rattle.amqp_ser.specs.Tree.{Tree, Scalar, scalar}
-use Rattle.amqp_de.specs.Results.{Reading}
+use Rattle.amqp_de.specs.Results.{ReadsAndRestores}
 
 module _ {T A : Type 0} (kind : A → Scalar) (content : T → A) where
   abbrev pub Holding : Tree → T → Type 0
   Holding t x = t ≡ scalar (kind (content x))
 
   abbrev pub ReadingContent : Tree → T → Type 0
-  ReadingContent = Reading Holding (λ x. scalar (kind (content x))) Always (λ x y. content x ≡ content y)
+  ReadingContent = ReadsAndRestores Holding (λ x. scalar (kind (content x))) HoldsAlways (λ x y. content x ≡ content y)
 
   module _ (told : (a b : A) → kind a ≡ kind b → a ≡ b) where
     content_read : (t : Tree) (x : T) → Holding t x → ReadingContent t x
@@ -33,7 +33,7 @@ module _ {T A : Type 0} (kind : A → Scalar) (content : T → A) where
 
   pub no_contents : {R F : Type 0} (whole : Type 0) (memory : F → Type 0) (ts : List Tree) (r : Result R F)
       → IfErr r (λ e. whole → memory e ⊎ ((xs : List T) → ¬ AllZip Holding ts xs))
-      → (xs : List T) → AllByRecursion Always xs → ts ≡ map (λ x. scalar (kind (content x))) xs → IfErr r (λ e. whole → memory e)
+      → (xs : List T) → AllByRecursion HoldsAlways xs → ts ≡ map (λ x. scalar (kind (content x))) xs → IfErr r (λ e. whole → memory e)
   no_contents whole memory ts (Ok v) h xs some is = tt
   no_contents whole memory ts (Err e) h xs some is = λ w. elim (h w) [
     | inl m ↦ m

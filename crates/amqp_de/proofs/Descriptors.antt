@@ -1,8 +1,8 @@
 -- What is read from a ulong or a symbol as a descriptor.
 use Rattle.std.proofs.Common.{◌≡◌, inl, inr, Result, Ok, Err, refl, sym, ap, ◌∙◌}
 use Rattle.amqp_ser.specs.Tree.{Tree, Descriptor, code, name, scalar}
-use Rattle.amqp_decode.specs.Spells.{descriptor_scalar}
-use Rattle.amqp_de.specs.Reads.{Always, descriptor_tree}
+use Rattle.amqp_decode.specs.Encodes.{descriptor_scalar}
+use Rattle.amqp_de.specs.Reads.{HoldsAlways, descriptor_tree}
 use Rattle.amqp_de.specs.Results.{Takes, Brings}
 use Rattle.amqp_de.specs.declared.fault.Fault.{Fault}
 
@@ -26,7 +26,7 @@ module _ {T R : Type 0} (content : T → Descriptor) (t : Tree) (whole : Type 0)
   ]
 
   pub descriptor_brought : (r : Result (T × R) Fault) → Takes (λ u x. u ≡ scalar (descriptor_scalar (content x))) t whole left r
-      → Brings (λ x. descriptor_tree (content x)) Always (λ x y. content x ≡ content y) t whole r
+      → Brings (λ x. descriptor_tree (content x)) HoldsAlways (λ x y. content x ≡ content y) t whole r
   descriptor_brought (Ok p) (is, rest) = λ x some e. told (content p.0) (content x) (sym (scalar_of (content p.0)) ∙ sym is ∙ e)
   descriptor_brought (Err f) h = λ x some e w. elim (h w) [
     | inl m ↦ m

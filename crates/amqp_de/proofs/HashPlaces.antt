@@ -36,10 +36,10 @@ module _ {K V : Type 0} (eq : K → K → Bool) (input : K → HashWrites) (plac
   -- The position of an equal key is among those of the key's hash.
   pub equal_among : ((x y : K) → eq x y ≡ true → input x ≡ input y) → ArePlaced eq input places es → (k : K) (found : List ℕ) → found ≡ positions places (hash_of (input k))
       → (i : ℕ) (d : K × V) → i < length es → eq k (get_or es i d).0 ≡ true → IsAmong found i
-  equal_among respects placed k found is i d within equal =
+  equal_among respects with_position k found is i d within equal =
       let e = (get_or es i d).0 in
       let same : positions places (hash_of (input e)) ≡ found = ap (λ w. positions places (hash_of w)) (sym (respects k e equal)) ∙ sym is in
-      subst (λ ps. IsAmong ps i) same (placed.placed i d within)
+      subst (λ ps. IsAmong ps i) same (with_position.with_position i d within)
 
 module _ {K V : Type 0} where
   -- A key stays where the value of an entry is replaced.
@@ -83,14 +83,14 @@ among_either false ps p i among = among
 is_same : (n : ℕ) → is_eq (nat_cmp n n) ≡ true
 is_same n = search rules
 
-module _ {K V : Type 0} (eq : K → K → Bool) (input : K → HashWrites) (places : BTreeMap ℕ (Vec ℕ Global)) (es : List (K × V)) (placed : ArePlaced eq input places es) where
+module _ {K V : Type 0} (eq : K → K → Bool) (input : K → HashWrites) (places : BTreeMap ℕ (Vec ℕ Global)) (es : List (K × V)) (with_position : ArePlaced eq input places es) where
   -- Where the value of an entry is replaced, all stay placed.
   pub placed_kept : (at : ℕ) (e : K × V) (v : V) → e ≡ get_or es at e → ArePlaced eq input places (slice_set es at (e.0, v))
   placed_kept at e v is =
-      let unindexed : IsIndexed eq input [] [] es = record { distinct = placed.distinct; chained = λ some. absurd (omega (arith, some)) } in
+      let unindexed : IsIndexed eq input [] [] es = record { distinct = with_position.distinct; chained = λ some. absurd (omega (arith, some)) } in
       record {
         distinct = (indexed_kept eq input [] [] es at e v unindexed is).distinct;
-        placed = λ i d within. subst (λ k. IsAmong (positions places (hash_of (input k))) i) (sym (key_kept es at i e d v is)) (placed.placed i d (omega (arith, within, length_kept es at (e.0, v))));
+        with_position = λ i d within. subst (λ k. IsAmong (positions places (hash_of (input k))) i) (sym (key_kept es at i e d v is)) (with_position.with_position i d (omega (arith, within, length_kept es at (e.0, v))));
       }
 
   -- Where an entry with a new key is appended, and its position added, all are placed.
@@ -102,11 +102,11 @@ module _ {K V : Type 0} (eq : K → K → Bool) (input : K → HashWrites) (plac
         rw last (rw (at_last es (k, v) d) (rw here (among_last (positions places h) (length es))))
     placed_at i d (inr (inl before)) within =
         let h = hash_of (input (get_or es i d).0) in
-        rw (at_before es (k, v) d i before) (rw (added h) (among_either (is_eq (nat_cmp (hash_of (input k)) h)) (positions places h) (length es) i (placed.placed i d before)))
+        rw (at_before es (k, v) d i before) (rw (added h) (among_either (is_eq (nat_cmp (hash_of (input k)) h)) (positions places h) (length es) i (with_position.with_position i d before)))
     placed_at i d (inr (inr after)) within = absurd (omega (arith, after, within))
 
     pub placed_push : None ≡ position (λ e. eq k e.0) es → ArePlaced eq input new (es ++ (k, v) ∷ [])
     placed_push none = record {
-      distinct = distinct_push eq input symmetric es k v placed.distinct none;
-      placed = λ i d within. placed_at i d (cases_order i (length es)) (omega (arith, within, length_more es (k, v)));
+      distinct = distinct_push eq input symmetric es k v with_position.distinct none;
+      with_position = λ i d within. placed_at i d (cases_order i (length es)) (omega (arith, within, length_more es (k, v)));
     }

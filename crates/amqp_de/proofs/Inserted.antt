@@ -10,7 +10,7 @@ use Rattle.std.specs.declared.cmp.Ordering.{Ordering}
 use Rattle.std.specs.declared.cmp.Ordering.TheVariants.{Greater}
 use Rattle.amqp_data.specs.Pairs.{insert_pair}
 use Rattle.amqp_value.specs.Converts.{inserted_in_order, inserted_sorted}
-use Rattle.amqp_de.specs.Maps.{SamePair, EachBefore, ForAllSame, AreDistinct, Ascend}
+use Rattle.amqp_de.specs.Maps.{AreSamePair, HoldsForEachBefore, HoldsForAllSame, AreDistinct, AreAscending}
 
 all_more : {X : Type 0} (P : X → Type 0) (xs : List X) (x : X) → AllByRecursion P xs → P x → AllByRecursion P (xs ++ x ∷ [])
 all_more P [] x all p = (p, tt)
@@ -22,7 +22,7 @@ all_prefix P (y ∷ xs) x all = let (some, last) = all_prefix P xs x all.1 in ((
 
 -- If `R` relates each element to every later one, it relates each of the others to the last, and
 -- the others among themselves.
-pub before_last : {X : Type 0} (R : X → X → Type 0) (xs : List X) (x : X) → EachBefore R (xs ++ x ∷ []) → EachBefore R xs × AllByRecursion (λ y. R y x) xs
+pub before_last : {X : Type 0} (R : X → X → Type 0) (xs : List X) (x : X) → HoldsForEachBefore R (xs ++ x ∷ []) → HoldsForEachBefore R xs × AllByRecursion (λ y. R y x) xs
 before_last R [] x each = (tt, tt)
 before_last R (y ∷ xs) x each =
     let (some, last) = all_prefix (R y) xs x each.0 in
@@ -37,7 +37,7 @@ module _ {X : Type 0} (R : X → X → Type 0) (step : List X → X → List X) 
   after_more done x [] after all = tt
   after_more done x (y ∷ xs) after all = (all_more (λ e. R e y) done x after.0 all.0, after_more done x xs after.1 all.1)
 
-  new_onto : (done xs : List X) → AllByRecursion (λ y. AllByRecursion (λ e. R e y) done) xs → EachBefore R xs → fold step done xs ≡ done ++ xs
+  new_onto : (done xs : List X) → AllByRecursion (λ y. AllByRecursion (λ e. R e y) done) xs → HoldsForEachBefore R xs → fold step done xs ≡ done ++ xs
   new_onto done [] after each = sym (append-nil done)
   new_onto done (x ∷ xs) after each =
       ap (λ es. fold step es xs) (new done x after.0)
@@ -48,7 +48,7 @@ module _ {X : Type 0} (R : X → X → Type 0) (step : List X → X → List X) 
   after_none [] = tt
   after_none (x ∷ xs) = (tt, after_none xs)
 
-  pub all_new : (xs : List X) → EachBefore R xs → fold step [] xs ≡ xs
+  pub all_new : (xs : List X) → HoldsForEachBefore R xs → fold step [] xs ≡ xs
   all_new xs each = new_onto [] xs (after_none xs) each
 
 module _ {K V : Type 0} where
@@ -56,14 +56,14 @@ module _ {K V : Type 0} where
   -- one, it relates each key of `ys` to every later one, where the pairs of `ys` and `xs` have the
   -- same contents.
   module _ (S : K → K → Type 0) (U : V → V → Type 0) (R : K → K → Type 0) where
-    so_to_all : (k l : K) (v w : V) (ys xs : List (K × V)) → S k l → AllZip (SamePair S U) ys xs → AllByRecursion (ForAllSame S R l) (keys_of xs)
+    so_to_all : (k l : K) (v w : V) (ys xs : List (K × V)) → S k l → AllZip (AreSamePair S U) ys xs → AllByRecursion (HoldsForAllSame S R l) (keys_of xs)
         → AllByRecursion (λ (e : K × V). R k e.0) ys
     so_to_all k l v w [] [] s z all = tt
     so_to_all k l v w [] (x ∷ xs) s z all = absurd z
     so_to_all k l v w (y ∷ ys) [] s z all = absurd z
     so_to_all k l v w (y ∷ ys) (x ∷ xs) s z all = (all.0 k y.0 s z.0.0, so_to_all k l v w ys xs s z.1 all.1)
 
-    pub each_before : (ys xs : List (K × V)) → AllZip (SamePair S U) ys xs → EachBefore (ForAllSame S R) (keys_of xs) → EachBefore (λ (p q : K × V). R p.0 q.0) ys
+    pub each_before : (ys xs : List (K × V)) → AllZip (AreSamePair S U) ys xs → HoldsForEachBefore (HoldsForAllSame S R) (keys_of xs) → HoldsForEachBefore (λ (p q : K × V). R p.0 q.0) ys
     each_before [] [] z each = tt
     each_before [] (x ∷ xs) z each = absurd z
     each_before (y ∷ ys) [] z each = absurd z
@@ -74,7 +74,7 @@ module _ {K V : Type 0} where
     insert_new [] p all = refl
     insert_new (e ∷ es) p all = rw all.0 (ap (λ fs. e ∷ fs) (insert_new es p all.1))
 
-    pub distinct_inserted : (ps : List (K × V)) → EachBefore (λ p q. eq q.0 p.0 ≡ false) ps → inserted_in_order eq ps ≡ ps
+    pub distinct_inserted : (ps : List (K × V)) → HoldsForEachBefore (λ p q. eq q.0 p.0 ≡ false) ps → inserted_in_order eq ps ≡ ps
     distinct_inserted = all_new (λ p q. eq q.0 p.0 ≡ false) (λ es p. insert_pair eq es p.0 p.1) insert_new
 
     -- A key without a value has none after updates of other keys.
@@ -87,17 +87,17 @@ module _ {K V : Type 0} where
     insert_greater [] p all = refl
     insert_greater (e ∷ es) p all = rw all.0 (ap (λ fs. e ∷ fs) (insert_greater es p all.1))
 
-    pub ascending_inserted : (ps : List (K × V)) → EachBefore (λ p q. cmp q.0 p.0 ≡ Greater) ps → inserted_sorted cmp ps ≡ ps
+    pub ascending_inserted : (ps : List (K × V)) → HoldsForEachBefore (λ p q. cmp q.0 p.0 ≡ Greater) ps → inserted_sorted cmp ps ≡ ps
     ascending_inserted = all_new (λ p q. cmp q.0 p.0 ≡ Greater) (λ es p. insert_entry cmp es p.0 p.1) insert_greater
 
 module _ {K V : Type 0} (S : K → K → Type 0) (U : V → V → Type 0) where
   -- Pairs with the same contents as those of a map are inserted unchanged.
-  pub restored_in_order : (eq : K → K → Bool) (es ys xs : List (K × V)) → AllZip (SamePair S U) ys xs → AreDistinct S eq (keys_of xs) → es ≡ inserted_in_order eq ys → AllZip (SamePair S U) es xs
+  pub restored_in_order : (eq : K → K → Bool) (es ys xs : List (K × V)) → AllZip (AreSamePair S U) ys xs → AreDistinct S eq (keys_of xs) → es ≡ inserted_in_order eq ys → AllZip (AreSamePair S U) es xs
   restored_in_order eq es ys xs zip apart is =
       let each = each_before S U (λ x y. eq y x ≡ false) ys xs zip apart in
       rw (is ∙ distinct_inserted eq ys each) zip
 
-  pub restored_sorted : (cmp : K → K → Ordering) (es ys xs : List (K × V)) → AllZip (SamePair S U) ys xs → Ascend S cmp (keys_of xs) → es ≡ inserted_sorted cmp ys → AllZip (SamePair S U) es xs
+  pub restored_sorted : (cmp : K → K → Ordering) (es ys xs : List (K × V)) → AllZip (AreSamePair S U) ys xs → AreAscending S cmp (keys_of xs) → es ≡ inserted_sorted cmp ys → AllZip (AreSamePair S U) es xs
   restored_sorted cmp es ys xs zip apart is =
       let each = each_before S U (λ x y. cmp y x ≡ Greater) ys xs zip apart in
       rw (is ∙ ascending_inserted cmp ys each) zip

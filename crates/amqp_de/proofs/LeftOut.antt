@@ -7,7 +7,7 @@ use Rattle.amqp_value.specs.TreeOf.{pairs_of}
 use Rattle.amqp_de.proofs.Lists.{same_trees, same_pairs}
 use Rattle.amqp_de.specs.Fields.{value_at, without}
 use Rattle.amqp_de.specs.Present.{optional, any_there, all_images, up_to_last, present_fields, has_name, distinct_names, EndsEarly}
-use Rattle.amqp_de.specs.Reads.{image_option, SameOption}
+use Rattle.amqp_de.specs.Reads.{image_option, AreSameOption}
 
 -- The images of all fields are a list that `EndsEarly` permits.
 all_there : (fs : List (Bool × Tree)) → EndsEarly fs (all_images fs)
@@ -99,7 +99,7 @@ module _ (n : List ℕ) where
   rest_by false t ns fs d = all_left ns fs d
 
 none_by : {T : Type 0} (S : T → T → Type 0) (o : Option T) (n : List ℕ) (t : Tree) (rs es : List (Tree × Tree)) →
-    es ≡ (if is_some o then (scalar (string n), t) ∷ rs else rs) → value_at n es ≡ None → SameOption S None o
+    es ≡ (if is_some o then (scalar (string n), t) ∷ rs else rs) → value_at n es ≡ None → AreSameOption S None o
 none_by S None n t rs es e v = tt
 none_by S (Some x) n t rs es e v = let same : Some t ≡ None = sym (first_value n t rs) ∙ ap (value_at n) (sym e) ∙ v in absurd cc
 
@@ -111,7 +111,7 @@ present_value n image o ns fs es t d e v = value_by n image o ns fs es t (not_an
 
 -- If the name of an optional field is not present, the field is absent.
 pub absent_same : {T : Type 0} (S : T → T → Type 0) (o : Option T) (n : List ℕ) (t : Tree) (rs es : List (Tree × Tree)) →
-    es ≡ (if is_some o then (scalar (string n), t) ∷ rs else rs) → value_at n es ≡ None → SameOption S None o
+    es ≡ (if is_some o then (scalar (string n), t) ∷ rs else rs) → value_at n es ≡ None → AreSameOption S None o
 absent_same S o n t rs es e v = none_by S o n t rs es e v
 
 -- The entries without the first field are the entries of the fields after it.

@@ -18,8 +18,8 @@ use Rattle.amqp_value.specs.Converts.{inserted_in_order}
 use Rattle.amqp_value.specs.Image.{insert_tree}
 use Rattle.amqp_value.specs.TreeOf.{pairs_of, tree_of}
 use Rattle.amqp_value.specs.declared.value.Value.{Value}
-use Rattle.amqp_de.specs.Results.{Reading}
-use Rattle.amqp_de.specs.Maps.{AreApart, Climbs, IsBelow, OnMap, ReadsPair, ReadsPairs, pair_image, IsPair, SamePair, EachBefore}
+use Rattle.amqp_de.specs.Results.{ReadsAndRestores}
+use Rattle.amqp_de.specs.Maps.{AreApart, AscendsByKeys, IsBelow, OnMap, ReadsPair, ReadsPairs, pair_image, IsPair, AreSamePair, HoldsForEachBefore}
 use Rattle.amqp_de.proofs.Inserted.{distinct_inserted}
 use Rattle.amqp_de.proofs.Lists.{entries_in_pairs, same_pairs}
 
@@ -67,14 +67,14 @@ apart_entry : (t : Tree × Tree) (us : List (Tree × Tree)) → AllByRecursion (
 apart_entry t [] all = tt
 apart_entry t (u ∷ us) all = (all.0, apart_entry t us all.1)
 
-pub apart_entries : (ts : List (Tree × Tree)) → AreApart (keys_of ts) → EachBefore (λ (p q : Tree × Tree). same_tree q.0 p.0 ≡ false) ts
+pub apart_entries : (ts : List (Tree × Tree)) → AreApart (keys_of ts) → HoldsForEachBefore (λ (p q : Tree × Tree). same_tree q.0 p.0 ≡ false) ts
 apart_entries [] apart = tt
 apart_entries (t ∷ ts) apart = (apart_entry t ts apart.0, apart_entries ts apart.1)
 
 module _ {K V : Type 0} (RK : Tree → K → Type 0) (imageK : K → Tree) (PK : K → Type 0) (SK : K → K → Type 0)
     (RV : Tree → V → Type 0) (imageV : V → Tree) (PV : V → Type 0) (SV : V → V → Type 0) where
   abbrev pub ReadingPair : Tree × Tree → K × V → Type 0
-  ReadingPair = ReadsPair (Reading RK imageK PK SK) (Reading RV imageV PV SV)
+  ReadingPair = ReadsPair (ReadsAndRestores RK imageK PK SK) (ReadsAndRestores RV imageV PV SV)
 
   pub pairs_read : (ts : List (Tree × Tree)) (ps : List (K × V)) → AllZip ReadingPair ts ps → AllZip (ReadsPair RK RV) ts ps
   pairs_read [] [] zip = tt
@@ -88,7 +88,7 @@ module _ {K V : Type 0} (RK : Tree → K → Type 0) (imageK : K → Tree) (PK :
   keys_read (t ∷ ts) [] zip = absurd zip
   keys_read (t ∷ ts) (p ∷ ps) zip = (zip.0.0.0, keys_read ts ps zip.1)
 
-  pub pairs_same : (ts : List (Tree × Tree)) (ps xs : List (K × V)) → AllZip ReadingPair ts ps → AllByRecursion (IsPair PK PV) xs → ts ≡ map (pair_image imageK imageV) xs → AllZip (SamePair SK SV) ps xs
+  pub pairs_same : (ts : List (Tree × Tree)) (ps xs : List (K × V)) → AllZip ReadingPair ts ps → AllByRecursion (IsPair PK PV) xs → ts ≡ map (pair_image imageK imageV) xs → AllZip (AreSamePair SK SV) ps xs
   pairs_same [] [] [] zip all is = tt
   pairs_same [] [] (x ∷ xs) zip all is = absurd cc
   pairs_same [] (p ∷ ps) xs zip all is = absurd zip
@@ -107,7 +107,7 @@ module _ {K V : Type 0} (eq : K → K → Bool) (flips : (k l : K) → eq k l �
   differ_after e [] lacks = tt
   differ_after e (f ∷ es) lacks = (flips f.0 e.0 ∙ lacks.0, differ_after e es lacks.1)
 
-  each_differs : (es : List (K × V)) → AreDistinct eq (keys_of es) → EachBefore (λ (e f : K × V). eq f.0 e.0 ≡ false) es
+  each_differs : (es : List (K × V)) → AreDistinct eq (keys_of es) → HoldsForEachBefore (λ (e f : K × V). eq f.0 e.0 ≡ false) es
   each_differs [] distinct = tt
   each_differs (e ∷ es) distinct = (differ_after e es distinct.0, each_differs es distinct.1)
 
@@ -136,7 +136,7 @@ module _ {K V : Type 0} (eq : K → K → Bool) (cmp : K → K → Ordering) (to
   below_others k l [] less all = tt
   below_others k l (e ∷ es) less all = (total.trans k l e.0 less all.0, below_others k l es less all.1)
 
-  below_all : (e : K × V) (es : List (K × V)) → IsBelow cmp e es → Climbs cmp es → AllByRecursion (λ (f : K × V). cmp e.0 f.0 ≡ Less) es
+  below_all : (e : K × V) (es : List (K × V)) → IsBelow cmp e es → AscendsByKeys cmp es → AllByRecursion (λ (f : K × V). cmp e.0 f.0 ≡ Less) es
   below_all e [] below climbs = tt
   below_all e (f ∷ es) below climbs = (below, below_others e.0 f.0 es below (below_all f es climbs.0 climbs.1))
 
@@ -144,7 +144,7 @@ module _ {K V : Type 0} (eq : K → K → Bool) (cmp : K → K → Ordering) (to
   below_lacks k [] all = tt
   below_lacks k (e ∷ es) all = (ties k e.0 ∙ ap is_eq all.0, below_lacks k es all.1)
 
-  pub climbs_distinct : (es : List (K × V)) → Climbs cmp es → AreDistinct eq (keys_of es)
+  pub climbs_distinct : (es : List (K × V)) → AscendsByKeys cmp es → AreDistinct eq (keys_of es)
   climbs_distinct [] climbs = tt
   climbs_distinct (e ∷ es) climbs = (below_lacks e.0 es (below_all e es climbs.0 climbs.1), climbs_distinct es climbs.1)
 

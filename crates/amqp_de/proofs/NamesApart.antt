@@ -6,7 +6,7 @@ use Rattle.std.specs.Map.{keys_of}
 use Rattle.amqp_ser.specs.Same.{same_tree}
 use Rattle.amqp_ser.specs.Tree.{Tree, scalar, string}
 use Rattle.amqp_de.specs.EncodedTrees.{HasOnly}
-use Rattle.amqp_de.specs.Maps.{AreApart, EachBefore}
+use Rattle.amqp_de.specs.Maps.{AreApart, HoldsForEachBefore}
 use Rattle.amqp_de.specs.Present.{present_fields, has_name, distinct_names}
 use Rattle.amqp_de.proofs.LeftOut.{or_false, not_and}
 

@@ -4,7 +4,7 @@ use Rattle.std.proofs.Common.{◌≡◌, List, [], ◌∷◌, refl, sym, subst}
 use Rattle.std.specs.Prelude.{◌↔◌}
 use Rattle.amqp_ser.specs.Tree as tree
 use Rattle.amqp_ser.specs.Tree.{Tree, Trees, Pairs, Descriptor}
-use Rattle.amqp_de.specs.Fields.{FieldSource, by_position, NoMoreFields, OnDescribed, OnFields, ReadsRequired}
+use Rattle.amqp_de.specs.Fields.{FieldSource, by_position, HasNoMoreFields, OnDescribed, OnFields, ReadsRequired}
 use Rattle.amqp_de.specs.Maps.{OnMap}
 use Rattle.amqp_de.specs.Readings.{BeginsWith}
 use Rattle.amqp_de.specs.Reads.{OnList, OnArray}
@@ -84,8 +84,8 @@ on_fields K t = (there t, λ h. subst (OnFields K) (sym h.1) h.2)
 pub record Agree (K : FieldSource → Type 0) (L : List Tree → Type 0) : Type 0 where
   pub both : (ts : List Tree) → K (by_position ts) ↔ L ts
 
-pub no_more : Agree NoMoreFields (λ ts. Unit {0})
-unfolding NoMoreFields
+pub no_more : Agree HasNoMoreFields (λ ts. Unit {0})
+unfolding HasNoMoreFields
 no_more = record { both = λ ts. (λ h. h, λ h. h) }
 
 pub one_more : {T : Type 0} {K : FieldSource → Type 0} {L : List Tree → Type 0} (R : Tree → T → Type 0) (x : T)

@@ -20,12 +20,12 @@ either f g (This x) = f x
 either f g (Other y) = g y
 
 -- Whether one of the variants is restorable: those after the first have another descriptor.
-abbrev pub RestorableBranch : {A R : Type 0} → Descriptor → (R → Descriptor) → (A → Type 0) → (R → Type 0) → Either A R → Type 0
-RestorableBranch w label P Q (This x) = P x
-RestorableBranch w label P Q (Other y) = (¬ (label y ≡ w)) × Q y
+abbrev pub IsRestorableBranch : {A R : Type 0} → Descriptor → (R → Descriptor) → (A → Type 0) → (R → Type 0) → Either A R → Type 0
+IsRestorableBranch w label P Q (This x) = P x
+IsRestorableBranch w label P Q (Other y) = (¬ (label y ≡ w)) × Q y
 
-abbrev pub SameEither : {A R : Type 0} → (A → A → Type 0) → (R → R → Type 0) → Either A R → Either A R → Type 0
-SameEither S T (This x) (This y) = S x y
-SameEither S T (Other x) (Other y) = T x y
-SameEither S T (This x) (Other y) = ⊥
-SameEither S T (Other x) (This y) = ⊥
+abbrev pub AreSameEither : {A R : Type 0} → (A → A → Type 0) → (R → R → Type 0) → Either A R → Either A R → Type 0
+AreSameEither S T (This x) (This y) = S x y
+AreSameEither S T (Other x) (Other y) = T x y
+AreSameEither S T (This x) (Other y) = ⊥
+AreSameEither S T (Other x) (This y) = ⊥

@@ -21,6 +21,6 @@ IsAlternative Is P Q d t (This x) = Is d × P t x
 IsAlternative Is P Q d t (Other y) = (¬ Is d) × Q d t y
 
 -- Whether one of the composites is restorable: those after the first have another code.
-abbrev pub RestorableAlternative : {A R : Type 0} → ℕ → (R → ℕ) → (A → Type 0) → (R → Type 0) → Either A R → Type 0
-RestorableAlternative c code_of P Q (This x) = P x
-RestorableAlternative c code_of P Q (Other y) = (not (code_of y == c) ≡ true) × Q y
+abbrev pub IsRestorableAlternative : {A R : Type 0} → ℕ → (R → ℕ) → (A → Type 0) → (R → Type 0) → Either A R → Type 0
+IsRestorableAlternative c code_of P Q (This x) = P x
+IsRestorableAlternative c code_of P Q (Other y) = (not (code_of y == c) ≡ true) × Q y

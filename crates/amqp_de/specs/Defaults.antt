@@ -9,19 +9,19 @@ unfoldable pub ReadsOr : {T : Type 0} → T → (Tree → T → Type 0) → Tree
 ReadsOr d R t x = ((t ≡ scalar null) × (x ≡ d)) ⊎ ((¬ (t ≡ scalar null)) × R t x)
 
 -- An absent value is read as the default.
-abbrev pub PerhapsOr : {T : Type 0} → T → (Tree → T → Type 0) → Option Tree → T → Type 0
-PerhapsOr d R None x = x ≡ d
-PerhapsOr d R (Some t) x = ReadsOr d R t x
+abbrev pub ReadsIfPresentOr : {T : Type 0} → T → (Tree → T → Type 0) → Option Tree → T → Type 0
+ReadsIfPresentOr d R None x = x ≡ d
+ReadsIfPresentOr d R (Some t) x = ReadsOr d R t x
 
 -- A field with a default, and the fields after it.
 unfoldable pub ReadsDefaulted : {T : Type 0} → List ℕ → T → (Tree → T → Type 0) → T → (FieldSource → Type 0) → FieldSource → Type 0
 ReadsDefaulted n d R x K (by_position []) = (x ≡ d) × K (by_position [])
 ReadsDefaulted n d R x K (by_position (t ∷ ts)) = ReadsOr d R t x × K (by_position ts)
-ReadsDefaulted n d R x K (by_name es) = PerhapsOr d R (value_at n es) x × K (by_name (without n es))
+ReadsDefaulted n d R x K (by_name es) = ReadsIfPresentOr d R (value_at n es) x × K (by_name (without n es))
 
 -- A value whose image is null is not restorable, because null is read as the default.
-abbrev pub RestorableDefaulted : {T : Type 0} → (T → Tree) → (T → Type 0) → T → Type 0
-RestorableDefaulted image P x = (¬ (image x ≡ scalar null)) × P x
+abbrev pub IsRestorableDefaulted : {T : Type 0} → (T → Tree) → (T → Type 0) → T → Type 0
+IsRestorableDefaulted image P x = (¬ (image x ≡ scalar null)) × P x
 
 -- The value, or another one if it is absent.
 abbrev pub value_or : {T : Type 0} → T → Option T → T

@@ -31,30 +31,30 @@ pub data FieldSource : Type 0 where
   by_name : List (Tree × Tree) → FieldSource
 
 -- A required value is present and is read.
-abbrev pub There : {T : Type 0} → (Tree → T → Type 0) → Option Tree → T → Type 0
-There R None x = ⊥
-There R (Some t) x = R t x
+abbrev pub ReadsPresent : {T : Type 0} → (Tree → T → Type 0) → Option Tree → T → Type 0
+ReadsPresent R None x = ⊥
+ReadsPresent R (Some t) x = R t x
 
 -- An optional value is read if it is present, and is `None` if it is absent.
-abbrev pub Perhaps : {T : Type 0} → (Tree → T → Type 0) → Option Tree → Option T → Type 0
-Perhaps R None x = x ≡ None
-Perhaps R (Some t) x = ReadsOption R t x
+abbrev pub ReadsIfPresent : {T : Type 0} → (Tree → T → Type 0) → Option Tree → Option T → Type 0
+ReadsIfPresent R None x = x ≡ None
+ReadsIfPresent R (Some t) x = ReadsOption R t x
 
 -- A required field, and the fields after it.
 unfoldable pub ReadsRequired : {T : Type 0} → List ℕ → (Tree → T → Type 0) → T → (FieldSource → Type 0) → FieldSource → Type 0
 ReadsRequired n R x K (by_position []) = ⊥
 ReadsRequired n R x K (by_position (t ∷ ts)) = R t x × K (by_position ts)
-ReadsRequired n R x K (by_name es) = There R (value_at n es) x × K (by_name (without n es))
+ReadsRequired n R x K (by_name es) = ReadsPresent R (value_at n es) x × K (by_name (without n es))
 
 -- An optional field, which may be absent or null, and the fields after it.
 unfoldable pub ReadsOptional : {T : Type 0} → List ℕ → (Tree → T → Type 0) → Option T → (FieldSource → Type 0) → FieldSource → Type 0
 ReadsOptional n R x K (by_position []) = (x ≡ None) × K (by_position [])
 ReadsOptional n R x K (by_position (t ∷ ts)) = ReadsOption R t x × K (by_position ts)
-ReadsOptional n R x K (by_name es) = Perhaps R (value_at n es) x × K (by_name (without n es))
+ReadsOptional n R x K (by_name es) = ReadsIfPresent R (value_at n es) x × K (by_name (without n es))
 
 -- No more fields. Further elements or entries are ignored.
-unfoldable pub NoMoreFields : FieldSource → Type 0
-NoMoreFields b = Unit {0}
+unfoldable pub HasNoMoreFields : FieldSource → Type 0
+HasNoMoreFields b = Unit {0}
 
 -- The fields are read from a list.
 unfoldable pub OnFields : (FieldSource → Type 0) → Tree → Type 0

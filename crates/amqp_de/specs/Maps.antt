@@ -31,8 +31,8 @@ module _ {K V : Type 0} where
   abbrev pub IsPair : (K → Type 0) → (V → Type 0) → K × V → Type 0
   IsPair P Q p = P p.0 × Q p.1
 
-  abbrev pub SamePair : (K → K → Type 0) → (V → V → Type 0) → K × V → K × V → Type 0
-  SamePair S U p q = S p.0 q.0 × U p.1 q.1
+  abbrev pub AreSamePair : (K → K → Type 0) → (V → V → Type 0) → K × V → K × V → Type 0
+  AreSamePair S U p q = S p.0 q.0 × U p.1 q.1
 
   -- Pairs are read from these trees, and `Holds` relates them to the map.
   abbrev pub ReadsPairs : {M : Type 0} → (Tree → K → Type 0) → (Tree → V → Type 0) → (List (K × V) → M → Type 0) → List (Tree × Tree) → M → Type 0
@@ -48,25 +48,25 @@ module _ {K V : Type 0} where
   HoldsSorted cmp ps m = m.entries ≡ inserted_sorted cmp ps
 
 -- `R` relates each element to every later one.
-abbrev pub EachBefore : {X : Type 0} → (X → X → Type 0) → List X → Type 0
-EachBefore R [] = Unit {0}
-EachBefore R (x ∷ xs) = AllByRecursion (R x) xs × EachBefore R xs
+abbrev pub HoldsForEachBefore : {X : Type 0} → (X → X → Type 0) → List X → Type 0
+HoldsForEachBefore R [] = Unit {0}
+HoldsForEachBefore R (x ∷ xs) = AllByRecursion (R x) xs × HoldsForEachBefore R xs
 
 -- `R` relates all keys with the contents of `k` to all keys with the contents of `l`.
-abbrev pub ForAllSame : {K : Type 0} → (K → K → Type 0) → (K → K → Type 0) → K → K → Type 0
-ForAllSame {K} S R k l = (x y : K) → S x k → S y l → R x y
+abbrev pub HoldsForAllSame : {K : Type 0} → (K → K → Type 0) → (K → K → Type 0) → K → K → Type 0
+HoldsForAllSame {K} S R k l = (x y : K) → S x k → S y l → R x y
 
 -- The keys are distinct, even if they are replaced by keys with the same contents.
 abbrev pub AreDistinct : {K : Type 0} → (K → K → Type 0) → (K → K → Bool) → List K → Type 0
-AreDistinct S eq = EachBefore (ForAllSame S (λ x y. eq y x ≡ false))
+AreDistinct S eq = HoldsForEachBefore (HoldsForAllSame S (λ x y. eq y x ≡ false))
 
 -- The keys strictly ascend, even if they are replaced by keys with the same contents.
-abbrev pub Ascend : {K : Type 0} → (K → K → Type 0) → (K → K → Ordering) → List K → Type 0
-Ascend S cmp = EachBefore (ForAllSame S (λ x y. cmp y x ≡ Greater))
+abbrev pub AreAscending : {K : Type 0} → (K → K → Type 0) → (K → K → Ordering) → List K → Type 0
+AreAscending S cmp = HoldsForEachBefore (HoldsForAllSame S (λ x y. cmp y x ≡ Greater))
 
 -- No two of the trees are equal.
 abbrev pub AreApart : List Tree → Type 0
-AreApart = EachBefore (λ t u. same_tree u t ≡ false)
+AreApart = HoldsForEachBefore (λ t u. same_tree u t ≡ false)
 
 -- The key is below the first key of the entries, if there is one.
 abbrev pub IsBelow : {K V : Type 0} → (K → K → Ordering) → K × V → List (K × V) → Type 0
@@ -74,16 +74,16 @@ IsBelow cmp e [] = Unit {0}
 IsBelow cmp e (f ∷ fs) = cmp e.0 f.0 ≡ Less
 
 -- Each key is below the next one.
-abbrev pub Climbs : {K V : Type 0} → (K → K → Ordering) → List (K × V) → Type 0
-Climbs cmp [] = Unit {0}
-Climbs cmp (e ∷ es) = IsBelow cmp e es × Climbs cmp es
+abbrev pub AscendsByKeys : {K V : Type 0} → (K → K → Ordering) → List (K × V) → Type 0
+AscendsByKeys cmp [] = Unit {0}
+AscendsByKeys cmp (e ∷ es) = IsBelow cmp e es × AscendsByKeys cmp es
 
 module _ {K V H : Type 0} where
   -- The map results from inserting the pairs in order, and holds them in an unspecified order. If
   -- no two keys are equal, its entries are a permutation of the pairs.
   abbrev pub HoldsHashed : (K → K → Bool) → List (K × V) → hashed.HashMap K V H → Type 0
-  HoldsHashed eq ps m = hashed.IsFromIterResult eq ps m × (EachBefore (λ p q. eq q.0 p.0 ≡ false) ps → IsPermutation ps m.entries)
+  HoldsHashed eq ps m = hashed.IsFromIterResult eq ps m × (HoldsForEachBefore (λ p q. eq q.0 p.0 ≡ false) ps → IsPermutation ps m.entries)
 
   -- In some order, the pairs of one map have the same contents as those of the other.
-  abbrev pub SameInSomeOrder : (K × V → K × V → Type 0) → hashed.HashMap K V H → hashed.HashMap K V H → Type 0
-  SameInSomeOrder S m n = (ps : List (K × V)) × IsPermutation ps m.entries × AllZip S ps n.entries
+  abbrev pub AreSameInSomeOrder : (K × V → K × V → Type 0) → hashed.HashMap K V H → hashed.HashMap K V H → Type 0
+  AreSameInSomeOrder S m n = (ps : List (K × V)) × IsPermutation ps m.entries × AllZip S ps n.entries

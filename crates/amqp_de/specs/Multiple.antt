@@ -24,13 +24,13 @@ multiple_image f (Many xs) = array (trees_of (map f (array_items xs)))
 
 -- One value whose image is an array is not restorable, because an array is read as many values; nor
 -- are no values, which are written as null.
-abbrev pub RestorableMultiple : {T : Type 0} → (T → Tree) → (T → Type 0) → Multiple T → Type 0
-RestorableMultiple f P (One x) = (is_array_tree (f x) ≡ false) × P x
-RestorableMultiple f P (Many xs) = ((length (array_items xs) == 0) ≡ false) × AllByRecursion P (array_items xs)
+abbrev pub IsRestorableMultiple : {T : Type 0} → (T → Tree) → (T → Type 0) → Multiple T → Type 0
+IsRestorableMultiple f P (One x) = (is_array_tree (f x) ≡ false) × P x
+IsRestorableMultiple f P (Many xs) = ((length (array_items xs) == 0) ≡ false) × AllByRecursion P (array_items xs)
 
 -- Two values with the same contents, or two arrays of such values.
-abbrev pub SameMultiple : {T : Type 0} → (T → T → Type 0) → Multiple T → Multiple T → Type 0
-SameMultiple S (One x) (One y) = S x y
-SameMultiple S (Many xs) (Many ys) = AllZip S (array_items xs) (array_items ys)
-SameMultiple S (One x) (Many ys) = ⊥
-SameMultiple S (Many xs) (One y) = ⊥
+abbrev pub AreSameMultiple : {T : Type 0} → (T → T → Type 0) → Multiple T → Multiple T → Type 0
+AreSameMultiple S (One x) (One y) = S x y
+AreSameMultiple S (Many xs) (Many ys) = AllZip S (array_items xs) (array_items ys)
+AreSameMultiple S (One x) (Many ys) = ⊥
+AreSameMultiple S (Many xs) (One y) = ⊥

@@ -17,16 +17,16 @@ abbrev pub ReadsEach : {T E : Type 0} → (Trees → Tree) → (T → List E) �
 ReadsEach {T} {E} compound items element reads = (t : Tree) (x : T) → reads t x ↔ ((ts : Trees) × (t ≡ compound ts) × AllZip element (elements_in ts) (items x))
 
 -- The image is the list, or the array, of the images of all elements.
-abbrev pub ImageOfEach : {T E : Type 0} → (Trees → Tree) → (T → List E) → (E → Tree) → (T → Tree) → Type 0
-ImageOfEach {T} compound items element image = (x : T) → image x ≡ compound (trees_of (map element (items x)))
+abbrev pub IsImageOfEach : {T E : Type 0} → (Trees → Tree) → (T → List E) → (E → Tree) → (T → Tree) → Type 0
+IsImageOfEach {T} compound items element image = (x : T) → image x ≡ compound (trees_of (map element (items x)))
 
 -- A value round-trips if all its elements do.
-abbrev pub RestorableIfEach : {T E : Type 0} → (T → List E) → (E → Type 0) → (T → Type 0) → Type 0
-RestorableIfEach {T} items element restorable = (x : T) → restorable x ↔ AllByRecursion element (items x)
+abbrev pub IsRestorableIfEach : {T E : Type 0} → (T → List E) → (E → Type 0) → (T → Type 0) → Type 0
+IsRestorableIfEach {T} items element restorable = (x : T) → restorable x ↔ AllByRecursion element (items x)
 
 -- Two values have the same contents if their elements do, in order.
-abbrev pub SameIfEach : {T E : Type 0} → (T → List E) → (E → E → Type 0) → (T → T → Type 0) → Type 0
-SameIfEach {T} items element same = (x y : T) → same x y ↔ AllZip element (items x) (items y)
+abbrev pub AreSameIfEach : {T E : Type 0} → (T → List E) → (E → E → Type 0) → (T → T → Type 0) → Type 0
+AreSameIfEach {T} items element same = (x y : T) → same x y ↔ AllZip element (items x) (items y)
 
 -- The first element is read as `x`, and `Others` holds for those after it.
 abbrev pub BeginsWith : {T : Type 0} → (Tree → T → Type 0) → T → (List Tree → Type 0) → List Tree → Type 0

@@ -8,8 +8,8 @@ use Rattle.amqp_ser.specs.Tree.{null, ulong, symbol, Descriptor, name, code, Tre
 use Rattle.amqp_de.specs.Values.{elements_in}
 
 -- The property that every value has.
-abbrev pub Always : {T : Type 0} → T → Type 0
-Always x = Unit {0}
+abbrev pub HoldsAlways : {T : Type 0} → T → Type 0
+HoldsAlways x = Unit {0}
 
 -- Null is read as `None`, and any other tree as `Some`.
 abbrev pub ReadsOption : {T : Type 0} → (Tree → T → Type 0) → Tree → Option T → Type 0
@@ -21,15 +21,15 @@ image_option image None = scalar null
 image_option image (Some x) = image x
 
 -- A value whose image is null is not restorable, because null is read as `None`.
-abbrev pub RestorableOption : {T : Type 0} → (T → Tree) → (T → Type 0) → Option T → Type 0
-RestorableOption image P None = Unit {0}
-RestorableOption image P (Some x) = (¬ (image x ≡ scalar null)) × P x
+abbrev pub IsRestorableOption : {T : Type 0} → (T → Tree) → (T → Type 0) → Option T → Type 0
+IsRestorableOption image P None = Unit {0}
+IsRestorableOption image P (Some x) = (¬ (image x ≡ scalar null)) × P x
 
-abbrev pub SameOption : {T : Type 0} → (T → T → Type 0) → Option T → Option T → Type 0
-SameOption S None None = Unit {0}
-SameOption S (Some x) (Some y) = S x y
-SameOption S None (Some y) = ⊥
-SameOption S (Some x) None = ⊥
+abbrev pub AreSameOption : {T : Type 0} → (T → T → Type 0) → Option T → Option T → Type 0
+AreSameOption S None None = Unit {0}
+AreSameOption S (Some x) (Some y) = S x y
+AreSameOption S None (Some y) = ⊥
+AreSameOption S (Some x) None = ⊥
 
 -- A list whose elements satisfy `K`.
 unfoldable pub OnList : (List Tree → Type 0) → Tree → Type 0

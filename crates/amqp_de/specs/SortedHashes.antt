@@ -28,4 +28,4 @@ AddsPosition hash at old new = (h : ℕ) → positions new h ≡ (if is_eq (nat_
 -- No two keys are equal, and the position of each entry is among those of its key's hash.
 pub record ArePlaced {K V : Type 0} (eq : K → K → Bool) (input : K → HashWrites) (places : BTreeMap ℕ (Vec ℕ Global)) (es : List (K × V)) : Type 0 where
   pub distinct : AreDistinct eq (keys_of es)
-  pub placed : (i : ℕ) (d : K × V) → i < length es → IsAmong (positions places (hash_of (input (slice_index_or es i d).0))) i
+  pub with_position : (i : ℕ) (d : K × V) → i < length es → IsAmong (positions places (hash_of (input (slice_index_or es i d).0))) i

@@ -4,9 +4,9 @@ ghost use Rattle.std.specs.Prelude.{ℕ, List, []};
 ghost use Rattle.amqp_ser.specs.Carried.{descriptor_content};
 ghost use Rattle.amqp_ser.specs.Tree.{Tree, Descriptor as AnyDescriptor};
 ghost use Rattle.amqp_ser.specs.Tree.{code as numbered, described, scalar, null};
-ghost use Rattle.amqp_de.specs.Branches.{OnBranches, either, SameEither};
+ghost use Rattle.amqp_de.specs.Branches.{OnBranches, either, AreSameEither};
 ghost use Rattle.amqp_de.specs.Composites.{IsCodeOrName};
-ghost use Rattle.amqp_de.specs.Composites.{IsAlternative, RestorableAlternative};
+ghost use Rattle.amqp_de.specs.Composites.{IsAlternative, IsRestorableAlternative};
 ghost use Rattle.amqp_de.specs.Results.{Takes, BringsBranch};
 
 use crate::branches::{Either, Never};
@@ -80,10 +80,10 @@ impl<T: Composite, R: Alternatives> Alternatives for Either<T, R> {
 
     ghost image = { either T.body.image R.image };
 
-    ghost restorable = { RestorableAlternative T.descriptor_code R.code_of
+    ghost restorable = { IsRestorableAlternative T.descriptor_code R.code_of
         T.body.restorable R.restorable };
 
-    ghost same = { SameEither T.body.same R.same };
+    ghost same = { AreSameEither T.body.same R.same };
 
     fn read_after<S: Source>(
         alloc: Global,

@@ -4,7 +4,7 @@ ghost use Rattle.amqp_ser.specs.Carried.{descriptor_content};
 ghost use Rattle.amqp_ser.specs.Tree.{Tree, Descriptor as AnyDescriptor};
 ghost use Rattle.amqp_ser.specs.Tree.{code, described, scalar, null};
 ghost use Rattle.amqp_de.specs.Branches.{IsBranch, OnBranches, either};
-ghost use Rattle.amqp_de.specs.Branches.{RestorableBranch, SameEither};
+ghost use Rattle.amqp_de.specs.Branches.{IsRestorableBranch, AreSameEither};
 ghost use Rattle.amqp_de.specs.Results.{Takes, BringsBranch};
 
 use crate::fault::Fault;
@@ -105,10 +105,10 @@ impl<K: Describes + Drop, X: Seed, R: Branches> Branches for Branch<K, X, R> {
 
     ghost image = { λ s. either (X.image s.1) (R.image s.2) };
 
-    ghost restorable = { λ s. RestorableBranch (K.wanted s.0) (R.label s.2)
+    ghost restorable = { λ s. IsRestorableBranch (K.wanted s.0) (R.label s.2)
         (X.restorable s.1) (R.restorable s.2) };
 
-    ghost same = { λ s. SameEither (X.same s.1) (R.same s.2) };
+    ghost same = { λ s. AreSameEither (X.same s.1) (R.same s.2) };
 
     ghost fits = { λ s. X.fits s.1 × R.fits s.2 };
 

@@ -2,10 +2,10 @@
 
 ghost use Rattle.std.specs.Prelude.{◌≡◌, ◌∷◌, List, Bool, ◌&&◌, true, IfOk, IfErr};
 ghost use Rattle.amqp_ser.specs.Tree.{Tree};
-ghost use Rattle.amqp_de.specs.Defaults.{ReadsOr, ReadsDefaulted, RestorableDefaulted};
+ghost use Rattle.amqp_de.specs.Defaults.{ReadsOr, ReadsDefaulted, IsRestorableDefaulted};
 ghost use Rattle.amqp_de.specs.Fields.{without};
 ghost use Rattle.amqp_de.specs.Present.{required};
-ghost use Rattle.amqp_de.specs.Results.{IsMemory, Takes, Brings, Reading};
+ghost use Rattle.amqp_de.specs.Results.{IsMemory, Takes, Brings, ReadsAndRestores};
 ghost use Rattle.amqp_de.specs.Steps.{TakesField, Follows, RefusesFirst};
 ghost use Rattle.amqp_de.specs.Steps.{TakesNamed, RefusesNamed};
 
@@ -38,7 +38,7 @@ fn read_or<V: Deserialize + Numbered, const D: u64, S: Source>(
 ) -> Result<(V, S::Rest), Fault>
     ensures read { Takes (ReadsOr (V.numbered D) V.reads) (S.value source) (S.is_whole source)
         (S.left source) result }
-    ensures law { Brings V.image (RestorableDefaulted V.image V.restorable) V.same
+    ensures law { Brings V.image (IsRestorableDefaulted V.image V.restorable) V.same
         (S.value source) (S.is_whole source) result }
 {
     if source.is_null() {
@@ -61,13 +61,13 @@ fn next_or<V: Deserialize + Numbered, const D: u64, S: Source>(
     elements: &mut S::Elements,
 ) -> Result<V, Fault>
     ensures ok { IfOk result (λ x. (ts : List Tree) → S.holds elements.new ts →
-        TakesField (Reading (ReadsOr (V.numbered D) V.reads) V.image
-        (RestorableDefaulted V.image V.restorable) V.same) (V.numbered D) (S.holds elements.old) ts x) }
+        TakesField (ReadsAndRestores (ReadsOr (V.numbered D) V.reads) V.image
+        (IsRestorableDefaulted V.image V.restorable) V.same) (V.numbered D) (S.holds elements.old) ts x) }
     ensures whole { IfOk result (λ _. S.are_whole elements.old →
         S.are_whole elements.new × Follows (S.items elements.old) (S.items elements.new)) }
     ensures err { IfErr result (λ e. S.are_whole elements.old →
         RefusesFirst (ReadsOr (V.numbered D) V.reads) V.image
-        (RestorableDefaulted V.image V.restorable) (IsMemory e) (S.items elements.old)) }
+        (IsRestorableDefaulted V.image V.restorable) (IsMemory e) (S.items elements.old)) }
 {
     let element = match S::next(&mut *elements) {
         Some(element) => element,
@@ -75,7 +75,7 @@ fn next_or<V: Deserialize + Numbered, const D: u64, S: Source>(
     };
     let (value, rest) = match read_or::<V, D, S>(alloc, element) {
         Ok(read) => read,
-        Err(fault) => return Err(S::placed(fault, name, S::taken(elements))),
+        Err(fault) => return Err(S::with_position(fault, name, S::count_read(elements))),
     };
     S::resume(elements, rest);
     Ok(value)
@@ -90,14 +90,14 @@ fn named_or<V: Deserialize + Numbered, const D: u64, S: Source>(
 ) -> Result<V, Fault>
     ensures ok { IfOk result (λ x. (ps : List (Tree × Tree)) → S.holds_pairs entries.new ps →
         (qs : List (Tree × Tree)) × S.holds_pairs entries.old qs
-        × TakesNamed (Reading (ReadsOr (V.numbered D) V.reads) V.image
-        (RestorableDefaulted V.image V.restorable) V.same) (V.numbered D)
+        × TakesNamed (ReadsAndRestores (ReadsOr (V.numbered D) V.reads) V.image
+        (IsRestorableDefaulted V.image V.restorable) V.same) (V.numbered D)
         S.only S.needs name.now qs ps x) }
     ensures whole { IfOk result (λ x. S.pairs_whole entries.old → S.pairs_whole entries.new
         × (S.pairs entries.new ≡ without name.now (S.pairs entries.old))) }
     ensures err { IfErr result (λ e. S.pairs_whole entries.old →
         RefusesNamed (ReadsOr (V.numbered D) V.reads) V.image
-        (RestorableDefaulted V.image V.restorable) (IsMemory e) name.now (S.pairs entries.old)) }
+        (IsRestorableDefaulted V.image V.restorable) (IsMemory e) name.now (S.pairs entries.old)) }
     ensures needs { (a b : Bool) → S.needs (a && b) → S.needs a × S.needs b }
     ensures enough { S.needs true }
 {
@@ -107,7 +107,7 @@ fn named_or<V: Deserialize + Numbered, const D: u64, S: Source>(
     };
     let (value, rest) = match read_or::<V, D, S>(alloc, entry) {
         Ok(read) => read,
-        Err(fault) => return Err(S::placed(fault, name, None)),
+        Err(fault) => return Err(S::with_position(fault, name, None)),
     };
     S::resume_entries(entries, rest);
     Ok(value)
@@ -124,7 +124,7 @@ impl<V: Deserialize + Numbered, const D: u64, R: FieldSeeds> FieldSeeds for Defa
     ghost images = { λ x. required (V.image x.value) ∷ R.images x.rest };
 
     ghost restorable = { λ x.
-        RestorableDefaulted V.image V.restorable x.value × R.restorable x.rest };
+        IsRestorableDefaulted V.image V.restorable x.value × R.restorable x.rest };
 
     ghost same = { λ x y. V.same x.value y.value × R.same x.rest y.rest };
 

@@ -43,11 +43,11 @@ impl<V: Deserialize, R: FieldSeeds> FieldSeeds for Element<V, R> {
         let mut elements = elements;
         let element = match S::next(&mut elements) {
             Some(element) => element,
-            None => return Err(S::missing("", S::taken(&elements))),
+            None => return Err(S::missing("", S::count_read(&elements))),
         };
         let (value, rest) = match V::read(alloc, element) {
             Ok(read) => read,
-            Err(fault) => return Err(S::placed(fault, "", S::taken(&elements))),
+            Err(fault) => return Err(S::with_position(fault, "", S::count_read(&elements))),
         };
         S::resume(&mut elements, rest);
         match self.rest.read_elements::<S>(alloc, elements) {

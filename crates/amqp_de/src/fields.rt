@@ -3,11 +3,11 @@
 ghost use Rattle.std.specs.Prelude.{◌≡◌, ◌⊎◌, ℕ, List, [], ◌∷◌, Bool, true, IfOk, IfErr};
 ghost use Rattle.amqp_ser.specs.Tree.{Tree};
 ghost use Rattle.amqp_de.specs.Fields.{FieldSource, by_position, by_name};
-ghost use Rattle.amqp_de.specs.Fields.{ReadsRequired, NoMoreFields};
+ghost use Rattle.amqp_de.specs.Fields.{ReadsRequired, HasNoMoreFields};
 ghost use Rattle.amqp_de.specs.Present.{EndsEarly, required, present_fields, distinct_names};
-ghost use Rattle.amqp_de.specs.Reads.{Always};
+ghost use Rattle.amqp_de.specs.Reads.{HoldsAlways};
 ghost use Rattle.amqp_de.specs.Results.{IsMemory};
-ghost use Rattle.amqp_de.specs.Steps.{Taken, TakenNamed};
+ghost use Rattle.amqp_de.specs.Steps.{ReadsElements, ReadsEntries};
 
 use crate::deserialize::Deserialize;
 use crate::fault::Fault;
@@ -47,7 +47,7 @@ pub trait FieldSeeds: Sized {
         elements: S::Elements,
     ) -> Result<Self::Values, Fault>
         ensures ok { IfOk result
-            (Taken (reads self.now) images restorable same (S.holds elements)) }
+            (ReadsElements (reads self.now) images restorable same (S.holds elements)) }
         ensures err { IfErr result (λ e. S.are_whole elements → IsMemory e
             ⊎ ((x : Self.Values) → ¬ reads self.now x (by_position (S.items elements)))) }
         ensures law { (x : Self.Values) → restorable x → EndsEarly (images x) (S.items elements) →
@@ -59,7 +59,7 @@ pub trait FieldSeeds: Sized {
         alloc: Global,
         entries: S::Entries,
     ) -> Result<Self::Values, Fault>
-        ensures ok { IfOk result (TakenNamed (reads self.now) (names self.now) images restorable
+        ensures ok { IfOk result (ReadsEntries (reads self.now) (names self.now) images restorable
             same S.needs S.only (S.holds_pairs entries)) }
         ensures err { IfErr result (λ e. S.pairs_whole entries → IsMemory e
             ⊎ ((x : Self.Values) → ¬ reads self.now x (by_name (S.pairs entries)))) }
@@ -73,13 +73,13 @@ pub trait FieldSeeds: Sized {
 impl FieldSeeds for () {
     type Values = ();
 
-    ghost reads = { λ _ _. NoMoreFields };
+    ghost reads = { λ _ _. HasNoMoreFields };
 
     ghost names = { λ _. [] };
 
     ghost images = { λ _. [] };
 
-    ghost restorable = { Always };
+    ghost restorable = { HoldsAlways };
 
     ghost same = { λ _ _. Unit {0} };
 
@@ -136,11 +136,11 @@ impl<V: Deserialize, R: FieldSeeds> FieldSeeds for Required<V, R> {
         let mut elements = elements;
         let element = match S::next(&mut elements) {
             Some(element) => element,
-            None => return Err(S::missing(self.name, S::taken(&elements))),
+            None => return Err(S::missing(self.name, S::count_read(&elements))),
         };
         let (value, rest) = match V::read(alloc, element) {
             Ok(read) => read,
-            Err(fault) => return Err(S::placed(fault, self.name, S::taken(&elements))),
+            Err(fault) => return Err(S::with_position(fault, self.name, S::count_read(&elements))),
         };
         S::resume(&mut elements, rest);
         match self.rest.read_elements::<S>(alloc, elements) {
@@ -162,7 +162,7 @@ impl<V: Deserialize, R: FieldSeeds> FieldSeeds for Required<V, R> {
         };
         let (value, rest) = match V::read(alloc, entry) {
             Ok(read) => read,
-            Err(fault) => return Err(S::placed(fault, self.name, None)),
+            Err(fault) => return Err(S::with_position(fault, self.name, None)),
         };
         S::resume_entries(&mut entries, rest);
         match self.rest.read_entries::<S>(alloc, entries) {

@@ -6,7 +6,7 @@ ghost use Rattle.std.specs.Map.{keys_of};
 ghost use Rattle.amqp_data.specs.Pairs.{AreDistinct};
 ghost use Rattle.amqp_value.specs.TreeOf.{tree_of};
 ghost use Rattle.amqp_de.specs.Fields.{is_name};
-ghost use Rattle.amqp_de.specs.Maps.{Climbs, IsBelow};
+ghost use Rattle.amqp_de.specs.Maps.{AscendsByKeys, IsBelow};
 
 use amqp_data::finds_distinct_keys;
 use amqp_value::Value;
@@ -49,7 +49,7 @@ pub(crate) fn ordered_keys_differ<K: Hash + Ord, V>(alloc: Global, entries: &[(K
 
 // Returns whether each key is below the next one.
 fn keys_ascend<K: Ord, V>(entries: &[(K, V)]) -> bool
-    ensures { OnTrue result (Climbs K.cmp entries.now) }
+    ensures { OnTrue result (AscendsByKeys K.cmp entries.now) }
 {
     let mut rest = entries;
     'keys: loop {
@@ -86,7 +86,7 @@ fn few_keys_differ<K: Eq, V>(entries: &[(K, V)]) -> bool
     let mut rest = entries;
     'keys: loop {
         match rest.split_first() {
-            Some((first, others)) => match place_of(&first.0, others) {
+            Some((first, others)) => match position_of(&first.0, others) {
                 Some(_) => return false,
                 None => rest = others,
             },
@@ -96,7 +96,7 @@ fn few_keys_differ<K: Eq, V>(entries: &[(K, V)]) -> bool
 }
 
 // Returns the position of the first entry with this key.
-fn place_of<K: Eq, V>(key: &K, entries: &[(K, V)]) -> Option<usize>
+fn position_of<K: Eq, V>(key: &K, entries: &[(K, V)]) -> Option<usize>
     ensures { result ≡ position (λ e. K.eq key.now e.0) entries.now }
 {
     entries.iter().position(|entry| *key == entry.0)

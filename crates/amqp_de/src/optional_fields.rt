@@ -4,8 +4,8 @@ ghost use Rattle.std.specs.Prelude.{◌≡◌, List, ◌∷◌, Bool, true, ◌&
 ghost use Rattle.amqp_ser.specs.Tree.{Tree};
 ghost use Rattle.amqp_de.specs.Fields.{without, ReadsOptional};
 ghost use Rattle.amqp_de.specs.Present.{optional};
-ghost use Rattle.amqp_de.specs.Reads.{ReadsOption, image_option, RestorableOption, SameOption};
-ghost use Rattle.amqp_de.specs.Results.{IsMemory, Reading};
+ghost use Rattle.amqp_de.specs.Reads.{ReadsOption, image_option, IsRestorableOption, AreSameOption};
+ghost use Rattle.amqp_de.specs.Results.{IsMemory, ReadsAndRestores};
 ghost use Rattle.amqp_de.specs.Steps.{TakesField, Follows, RefusesFirst};
 ghost use Rattle.amqp_de.specs.Steps.{TakesNamed, RefusesNamed};
 
@@ -35,14 +35,14 @@ fn next_value<V: Deserialize, S: Source>(
     elements: &mut S::Elements,
 ) -> Result<Option<V>, Fault>
     ensures ok { IfOk result (λ x. (ts : List Tree) → S.holds elements.new ts →
-        TakesField (Reading (ReadsOption V.reads) (image_option V.image)
-        (RestorableOption V.image V.restorable) (SameOption V.same)) None
+        TakesField (ReadsAndRestores (ReadsOption V.reads) (image_option V.image)
+        (IsRestorableOption V.image V.restorable) (AreSameOption V.same)) None
         (S.holds elements.old) ts x) }
     ensures whole { IfOk result (λ _. S.are_whole elements.old →
         S.are_whole elements.new × Follows (S.items elements.old) (S.items elements.new)) }
     ensures err { IfErr result (λ e. S.are_whole elements.old →
         RefusesFirst (ReadsOption V.reads) (image_option V.image)
-        (RestorableOption V.image V.restorable) (IsMemory e) (S.items elements.old)) }
+        (IsRestorableOption V.image V.restorable) (IsMemory e) (S.items elements.old)) }
 {
     let element = match S::next(&mut *elements) {
         Some(element) => element,
@@ -62,7 +62,7 @@ fn next_value<V: Deserialize, S: Source>(
             S::resume(elements, rest);
             Ok(Some(value))
         }
-        Err(fault) => Err(S::placed(fault, name, S::taken(elements))),
+        Err(fault) => Err(S::with_position(fault, name, S::count_read(elements))),
     }
 }
 
@@ -75,14 +75,14 @@ fn named_value<V: Deserialize, S: Source>(
 ) -> Result<Option<V>, Fault>
     ensures ok { IfOk result (λ x. (ps : List (Tree × Tree)) → S.holds_pairs entries.new ps →
         (qs : List (Tree × Tree)) × S.holds_pairs entries.old qs
-        × TakesNamed (Reading (ReadsOption V.reads) (image_option V.image)
-        (RestorableOption V.image V.restorable) (SameOption V.same)) None
+        × TakesNamed (ReadsAndRestores (ReadsOption V.reads) (image_option V.image)
+        (IsRestorableOption V.image V.restorable) (AreSameOption V.same)) None
         S.only S.needs name.now qs ps x) }
     ensures whole { IfOk result (λ x. S.pairs_whole entries.old → S.pairs_whole entries.new
         × (S.pairs entries.new ≡ without name.now (S.pairs entries.old))) }
     ensures err { IfErr result (λ e. S.pairs_whole entries.old →
         RefusesNamed (ReadsOption V.reads) (image_option V.image)
-        (RestorableOption V.image V.restorable) (IsMemory e) name.now (S.pairs entries.old)) }
+        (IsRestorableOption V.image V.restorable) (IsMemory e) name.now (S.pairs entries.old)) }
     ensures needs { (a b : Bool) → S.needs (a && b) → S.needs a × S.needs b }
     ensures enough { S.needs true }
 {
@@ -104,7 +104,7 @@ fn named_value<V: Deserialize, S: Source>(
             S::resume_entries(entries, rest);
             Ok(Some(value))
         }
-        Err(fault) => Err(S::placed(fault, name, None)),
+        Err(fault) => Err(S::with_position(fault, name, None)),
     }
 }
 
@@ -118,9 +118,9 @@ impl<V: Deserialize, R: FieldSeeds> FieldSeeds for Optional<V, R> {
     ghost images = { λ x. optional V.image x.value ∷ R.images x.rest };
 
     ghost restorable = { λ x.
-        RestorableOption V.image V.restorable x.value × R.restorable x.rest };
+        IsRestorableOption V.image V.restorable x.value × R.restorable x.rest };
 
-    ghost same = { λ x y. SameOption V.same x.value y.value × R.same x.rest y.rest };
+    ghost same = { λ x y. AreSameOption V.same x.value y.value × R.same x.rest y.rest };
 
     #[inline(always)]
     fn read_elements<S: Source>(

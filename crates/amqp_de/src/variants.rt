@@ -2,10 +2,10 @@
 
 ghost use Rattle.std.specs.Prelude.{◌≡◌, ℕ, [], Option, Some, None, IfOk, MatchResult};
 ghost use Rattle.amqp_ser.specs.Tree.{Tree};
-ghost use Rattle.amqp_de.specs.Branches.{SameEither};
+ghost use Rattle.amqp_de.specs.Branches.{AreSameEither};
 ghost use Rattle.amqp_de.specs.Enums.{IsUnitVariant, IsDataVariant, IsNoVariant};
-ghost use Rattle.amqp_de.specs.Enums.{index_of, data_of, RestorableEither, TakesAt, BringsAt};
-ghost use Rattle.amqp_de.specs.Reads.{Always};
+ghost use Rattle.amqp_de.specs.Enums.{index_of, data_of, IsRestorableEither, TakesAt, BringsAt};
+ghost use Rattle.amqp_de.specs.Reads.{HoldsAlways};
 ghost use Rattle.amqp_de.specs.Results.{IsMemory, Takes};
 
 use crate::branches::{Either, Never};
@@ -109,9 +109,9 @@ impl<R: Variants> Variants for UnitVariant<R> {
 
     ghost content = { data_of (λ _. None) R.content };
 
-    ghost restorable = { RestorableEither Always R.restorable };
+    ghost restorable = { IsRestorableEither HoldsAlways R.restorable };
 
-    ghost same = { SameEither (λ x y. x ≡ y) R.same };
+    ghost same = { AreSameEither (λ x y. x ≡ y) R.same };
 
     fn read_index(self, index: u32) -> Result<Either<(), R::Value>, Fault> {
         if index == 0 {
@@ -165,9 +165,9 @@ impl<X: Nameless, R: Variants> Variants for DataVariant<X, R> {
 
     ghost content = { data_of (λ x. Some ((X.laws []).image x)) R.content };
 
-    ghost restorable = { RestorableEither (X.laws []).restorable R.restorable };
+    ghost restorable = { IsRestorableEither (X.laws []).restorable R.restorable };
 
-    ghost same = { SameEither (X.laws []).same R.same };
+    ghost same = { AreSameEither (X.laws []).same R.same };
 
     fn read_index(self, index: u32) -> Result<Either<X::Value, R::Value>, Fault> {
         if index == 0 {

@@ -68,8 +68,8 @@ impl<R: io::Read> HexReader<R> {
                 break;
             }
             if let Some(byte) = self.byte_of(*character) {
-                if let Some(place) = buf.get_mut(count) {
-                    *place = byte;
+                if let Some(slot) = buf.get_mut(count) {
+                    *slot = byte;
                 }
                 count = count.saturating_add(1);
             }

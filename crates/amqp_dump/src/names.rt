@@ -28,7 +28,7 @@ impl Type {
 ///
 /// `0x73` gives `properties`, whose first field is `message-id`.
 pub fn type_of(code: u64) -> Option<&'static Type> {
-    let place = match code {
+    let index = match code {
         0x10..=0x18 => code - 0x10,
         0x1d => 9,
         0x23..=0x29 => code - 0x23 + 10,
@@ -38,7 +38,7 @@ pub fn type_of(code: u64) -> Option<&'static Type> {
         0x70..=0x78 => code - 0x70 + 31,
         _ => return None,
     };
-    TYPES.get(place as usize)
+    TYPES.get(index as usize)
 }
 
 /// Returns the numeric descriptor of this symbolic descriptor, or `None` if the standard has none.

@@ -10,8 +10,8 @@ abbrev pub last_count : ℕ
 last_count = 2 ^ 64 - 1
 
 -- the count increased, or was at its maximum
-abbrev pub Failed : ℕ → ℕ → Type 0
-Failed before after = (before < after) ⊎ (before ≡ last_count)
+abbrev pub HasFailed : ℕ → ℕ → Type 0
+HasFailed before after = (before < after) ⊎ (before ≡ last_count)
 
 -- the error is `Io`
 abbrev pub is_io : Error → Bool

@@ -3,7 +3,7 @@
 ghost use Rattle.std.specs.Prelude.{◌≡◌, ◌≤◌, ◌<◌, ◌⊎◌, ℕ, Bool, List, Option, None, Ok, IfOk, OnOk, IfErr, OnErr, IfSome, IsErrOf, length, take, slice_get};
 ghost use Rattle.std.specs.Option.{option_to_list};
 ghost use Rattle.std.specs.Io.KnownBytes.{Keeps, Consumes, IsAtEnd};
-ghost use Rattle.amqp_frame.specs.Reader.{last_count, Failed, Takes, RunsOut, answers_io};
+ghost use Rattle.amqp_frame.specs.Reader.{last_count, HasFailed, Takes, RunsOut, answers_io};
 
 use amqp_data::Error;
 
@@ -44,7 +44,7 @@ pub trait Read {
     fn peek(&mut self) -> Result<Option<u8>, Error>
         ensures ok { IfOk result (λ byte. IfSome (left self.old) (λ s. byte ≡ slice_get s 0)) }
         ensures io { IfErr result (λ e.
-            (e ≡ Error.Io) × Failed (failures self.old) (failures self.new)) }
+            (e ≡ Error.Io) × HasFailed (failures self.old) (failures self.new)) }
         ensures last { failures self.old ≡ last_count → IsErrOf result Error.Io }
         ensures kept { Keeps (left self.old) (left self.new) }
         ensures counts { counts (answers_io result) (failures self.old) (failures self.new) }
@@ -68,7 +68,7 @@ pub trait Read {
             Consumes (left self.old) (left self.new) (option_to_list byte)) }
         ensures end { IfOk result (λ byte. byte ≡ None → IsAtEnd (left self.new)) }
         ensures io { IfErr result (λ e.
-            (e ≡ Error.Io) × Failed (failures self.old) (failures self.new)) }
+            (e ≡ Error.Io) × HasFailed (failures self.old) (failures self.new)) }
         ensures last { failures self.old ≡ last_count → IsErrOf result Error.Io }
         ensures kept { OnErr result (Keeps (left self.old) (left self.new)) }
         ensures counts { counts (answers_io result) (failures self.old) (failures self.new) }
@@ -95,7 +95,7 @@ pub trait Read {
             RunsOut (left self.old) (left self.new) (length buf.old) }
         ensures io { IsErrOf result Error.Io →
             Takes (left self.old) (left self.new)
-            × Failed (failures self.old) (failures self.new) }
+            × HasFailed (failures self.old) (failures self.new) }
         ensures others { IfErr result (λ e. (e ≡ Error.UnexpectedEof) ⊎ (e ≡ Error.Io)) }
         ensures last { failures self.old ≡ last_count → IsErrOf result Error.Io }
         ensures counts { counts (answers_io result) (failures self.old) (failures self.new) }
@@ -123,7 +123,7 @@ pub trait Read {
         ensures bound { IfOk result (λ count. count ≤ length buf.new) }
         ensures end { result ≡ Ok 0 → IsAtEnd (left self.new) }
         ensures io { IfErr result (λ e.
-            (e ≡ Error.Io) × Failed (failures self.old) (failures self.new)) }
+            (e ≡ Error.Io) × HasFailed (failures self.old) (failures self.new)) }
         ensures last { failures self.old ≡ last_count → IsErrOf result Error.Io }
         ensures kept { OnErr result (Keeps (left self.old) (left self.new)) }
         ensures counts { counts (answers_io result) (failures self.old) (failures self.new) }

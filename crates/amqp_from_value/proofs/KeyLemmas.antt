@@ -8,15 +8,15 @@ use Rattle.std.specs.declared.cmp.Ordering.{Ordering}
 use Rattle.std.specs.declared.cmp.Ordering.TheVariants.{Equal, Greater}
 use Rattle.amqp_ser.specs.Tree.{Tree, trees_of}
 use Rattle.amqp_value.specs.TreeOf.{pairs_of}
-use Rattle.amqp_de.specs.Maps.{pair_image, IsPair, SamePair, EachBefore, ForAllSame, AreDistinct, Ascend}
-use Rattle.amqp_de.specs.Reads.{image_option, RestorableOption, SameOption}
+use Rattle.amqp_de.specs.Maps.{pair_image, IsPair, AreSamePair, HoldsForEachBefore, HoldsForAllSame, AreDistinct, AreAscending}
+use Rattle.amqp_de.specs.Reads.{image_option, IsRestorableOption, AreSameOption}
 
 -- No two keys have the same image.
 abbrev pub HaveDistinctImages : {K : Type 0} → (K → Tree) → List K → Type 0
-HaveDistinctImages g = EachBefore (λ k l. ¬ (g k ≡ g l))
+HaveDistinctImages g = HoldsForEachBefore (λ k l. ¬ (g k ≡ g l))
 
 module _ {T : Type 0} (g : T → Tree) (P : T → Type 0) (S : T → T → Type 0) (told : (x y : T) → P x → P y → g x ≡ g y → S x y) where
-  pub options_told : (o p : Option T) → RestorableOption g P o → RestorableOption g P p → image_option g o ≡ image_option g p → SameOption S o p
+  pub options_told : (o p : Option T) → IsRestorableOption g P o → IsRestorableOption g P p → image_option g o ≡ image_option g p → AreSameOption S o p
   options_told None None a b e = tt
   options_told None (Some y) a b e = absurd (b.0 (sym e))
   options_told (Some x) None a b e = absurd (a.0 e)
@@ -30,23 +30,23 @@ module _ {T : Type 0} (g : T → Tree) (P : T → Type 0) (S : T → T → Type 
 
   -- Keys are distinct by a relation that no key has to itself.
   module _ (R : T → T → Type 0) (never : (x : T) → ¬ (R x x)) where
-    far : (k l : T) → P k → P l → ForAllSame S R k l → ¬ (g k ≡ g l)
+    far : (k l : T) → P k → P l → HoldsForAllSame S R k l → ¬ (g k ≡ g l)
     far k l a b apart e = never k (apart k k (told k k a a refl) (told k l a b e))
 
     module _ {V : Type 0} (Q : V → Type 0) where
-      all_far : (k : T) (es : List (T × V)) → P k → AllByRecursion (IsPair P Q) es → AllByRecursion (ForAllSame S R k) (keys_of es) →
+      all_far : (k : T) (es : List (T × V)) → P k → AllByRecursion (IsPair P Q) es → AllByRecursion (HoldsForAllSame S R k) (keys_of es) →
           AllByRecursion (λ l. ¬ (g k ≡ g l)) (keys_of es)
       all_far k [] a all apart = tt
       all_far k (e ∷ es) a all apart = (far k e.0 a all.0.0 apart.0, all_far k es a all.1 apart.1)
 
-      pub images_differ : (es : List (T × V)) → AllByRecursion (IsPair P Q) es → EachBefore (ForAllSame S R) (keys_of es) → HaveDistinctImages g (keys_of es)
+      pub images_differ : (es : List (T × V)) → AllByRecursion (IsPair P Q) es → HoldsForEachBefore (HoldsForAllSame S R) (keys_of es) → HaveDistinctImages g (keys_of es)
       images_differ [] all apart = tt
       images_differ (e ∷ es) all apart = (all_far e.0 es all.0.0 all.1 apart.0, images_differ es all.1 apart.1)
 
 module _ {K V : Type 0} (f : K → Tree) (P : K → Type 0) (S : K → K → Type 0) (key : (x y : K) → P x → P y → f x ≡ f y → S x y)
     (g : V → Tree) (Q : V → Type 0) (U : V → V → Type 0) (value : (x y : V) → Q x → Q y → g x ≡ g y → U x y) where
   pub entries_told : (ds es : List (K × V)) → AllByRecursion (IsPair P Q) ds → AllByRecursion (IsPair P Q) es →
-      pairs_of (map (pair_image f g) ds) ≡ pairs_of (map (pair_image f g) es) → AllZip (SamePair S U) ds es
+      pairs_of (map (pair_image f g) ds) ≡ pairs_of (map (pair_image f g) es) → AllZip (AreSamePair S U) ds es
   entries_told [] [] a b e = tt
   entries_told [] (y ∷ es) a b e = absurd cc
   entries_told (x ∷ ds) [] a b e = absurd cc
@@ -61,5 +61,5 @@ module _ {K V : Type 0} (g : K → Tree) (P : K → Type 0) (S : K → K → Typ
   distinct_differ eq laws = images_differ g P S told (λ x y. eq y x ≡ false) (λ x e. true≢false (sym (laws.refl x) ∙ e)) Q
 
   pub ascending_differ : (cmp : K → K → Ordering) → IsTotalOrder cmp → (es : List (K × V)) → AllByRecursion (IsPair P Q) es →
-      Ascend S cmp (keys_of es) → HaveDistinctImages g (keys_of es)
+      AreAscending S cmp (keys_of es) → HaveDistinctImages g (keys_of es)
   ascending_differ cmp laws = images_differ g P S told (λ x y. cmp y x ≡ Greater) (λ x. not_above_itself cmp laws x) Q

@@ -3,7 +3,7 @@
 ghost use Rattle.std.specs.Prelude.{ℕ, Option, None};
 ghost use Rattle.amqp_ser.specs.Tree.{Tree, code, described, scalar, null};
 ghost use Rattle.amqp_de.specs.Branches.{either};
-ghost use Rattle.amqp_de.specs.Composites.{RestorableAlternative};
+ghost use Rattle.amqp_de.specs.Composites.{IsRestorableAlternative};
 ghost use Rattle.amqp_from_value.specs.HasImage.{HasImage};
 
 use crate::round_trips::RoundTripReadable;
@@ -70,7 +70,7 @@ impl RoundTripAlternatives for Never {
     fn law() {}
 }
 
-#[tactic(auto, using(crate::proofs::AlternativeLemmas::either_stands))]
+#[tactic(auto, using(crate::proofs::AlternativeLemmas::either_has_image))]
 impl<T: RoundTripComposite, R: RoundTripAlternatives> RoundTripAlternatives for Either<T, R> {
     ghost trees = { either T.tree R.trees };
 
@@ -78,7 +78,7 @@ impl<T: RoundTripComposite, R: RoundTripAlternatives> RoundTripAlternatives for 
 
     ghost image = { either T.body.image R.image };
 
-    ghost restorable = { RestorableAlternative T.descriptor_code R.code_of T.body.restorable
+    ghost restorable = { IsRestorableAlternative T.descriptor_code R.code_of T.body.restorable
         R.restorable };
 
     fn law() {

@@ -3,10 +3,10 @@
 ghost use Rattle.std.specs.Prelude.{List, [], ◌∷◌, Option, Bool, true, is_some};
 ghost use Rattle.amqp_ser.specs.Carried as ser;
 ghost use Rattle.amqp_ser.specs.Tree.{Tree};
-ghost use Rattle.amqp_de.specs.Defaults.{RestorableDefaulted};
+ghost use Rattle.amqp_de.specs.Defaults.{IsRestorableDefaulted};
 ghost use Rattle.amqp_de.specs.Present.{required, optional};
-ghost use Rattle.amqp_de.specs.Reads.{Always, RestorableOption};
-ghost use Rattle.amqp_from_value.specs.FieldTrees.{FieldsStand};
+ghost use Rattle.amqp_de.specs.Reads.{HoldsAlways, IsRestorableOption};
+ghost use Rattle.amqp_from_value.specs.FieldTrees.{FieldTreesHaveImages};
 
 use crate::round_trips::RoundTrip;
 use amqp_de::{Defaulted, FieldValues, Optional, Required};
@@ -34,10 +34,10 @@ pub trait RoundTripFields {
 
     /// States that each field of restorable fields has a tree whose image is the declared image.
     fn law()
-        ensures { (x : Self.Values) → restorable x → FieldsStand (trees x) (images x) };
+        ensures { (x : Self.Values) → restorable x → FieldTreesHaveImages (trees x) (images x) };
 }
 
-#[tactic(auto, unfolding(crate::specs::FieldTrees::FieldsStand))]
+#[tactic(auto, unfolding(crate::specs::FieldTrees::FieldTreesHaveImages))]
 impl RoundTripFields for () {
     type Values = ();
 
@@ -45,12 +45,12 @@ impl RoundTripFields for () {
 
     ghost images = { λ _. [] };
 
-    ghost restorable = { Always };
+    ghost restorable = { HoldsAlways };
 
     fn law() {}
 }
 
-#[tactic(auto, unfolding(crate::specs::FieldTrees::FieldsStand))]
+#[tactic(auto, unfolding(crate::specs::FieldTrees::FieldTreesHaveImages))]
 impl<V: RoundTrip, R: RoundTripFields> RoundTripFields for Required<V, R> {
     type Values = FieldValues<V, R::Values>;
 
@@ -66,7 +66,7 @@ impl<V: RoundTrip, R: RoundTripFields> RoundTripFields for Required<V, R> {
     }
 }
 
-#[tactic(auto, unfolding(crate::specs::FieldTrees::FieldsStand))]
+#[tactic(auto, unfolding(crate::specs::FieldTrees::FieldTreesHaveImages))]
 impl<V: RoundTrip, R: RoundTripFields> RoundTripFields for Optional<V, R> {
     type Values = FieldValues<Option<V>, R::Values>;
 
@@ -74,7 +74,7 @@ impl<V: RoundTrip, R: RoundTripFields> RoundTripFields for Optional<V, R> {
 
     ghost images = { λ x. optional V.image x.value ∷ R.images x.rest };
 
-    ghost restorable = { λ x. RestorableOption V.image V.restorable x.value × R.restorable x.rest };
+    ghost restorable = { λ x. IsRestorableOption V.image V.restorable x.value × R.restorable x.rest };
 
     fn law() {
         <Option<V> as RoundTrip>::law();
@@ -82,7 +82,7 @@ impl<V: RoundTrip, R: RoundTripFields> RoundTripFields for Optional<V, R> {
     }
 }
 
-#[tactic(auto, unfolding(crate::specs::FieldTrees::FieldsStand))]
+#[tactic(auto, unfolding(crate::specs::FieldTrees::FieldTreesHaveImages))]
 impl<V: RoundTrip, const D: u64, R: RoundTripFields> RoundTripFields for Defaulted<V, D, R> {
     type Values = FieldValues<V, R::Values>;
 
@@ -91,7 +91,7 @@ impl<V: RoundTrip, const D: u64, R: RoundTripFields> RoundTripFields for Default
     ghost images = { λ x. required (V.image x.value) ∷ R.images x.rest };
 
     ghost restorable = { λ x.
-        RestorableDefaulted V.image V.restorable x.value × R.restorable x.rest };
+        IsRestorableDefaulted V.image V.restorable x.value × R.restorable x.rest };
 
     fn law() {
         V::law();

@@ -1,7 +1,7 @@
 -- The sections of a message, and their order (AMQP 1.0 part 3, section 3.2).
 use Rattle.std.specs.Prelude.{◌≡◌, ◌≤◌, ◌<◌, ◌⊎◌, ℕ, Bool, true, false, nat_eq, ◌||◌, List, [], ◌∷◌, ◌++◌, length, Option, Some, None, IfSome, codes}
 use Rattle.std.specs.List.{starts_with}
-use Rattle.amqp_frame.specs.Frame.{IsFrame, HasFrame}
+use Rattle.amqp_frame.specs.EncodedValue.{IsEncodedValue, HasEncodedValue}
 use Rattle.amqp_messaging.specs.declared.message.error.MessageError.{MessageError}
 use Rattle.amqp_messaging.specs.declared.message.error.MessageError.TheVariants as error
 use Rattle.amqp_messaging.specs.declared.message.kind.SectionKind.{SectionKind}
@@ -42,19 +42,19 @@ selects k s =
 
 -- The bytes are an encoded section of this kind.
 abbrev pub IsSection : SectionKind → List ℕ → Type 0
-IsSection k s = IsFrame s × (selects k s ≡ true)
+IsSection k s = IsEncodedValue s × (selects k s ≡ true)
 
--- The place of a kind in a message. The three kinds of a body have one.
-abbrev pub place : SectionKind → ℕ
-place kind.Header = 0
-place kind.DeliveryAnnotations = 1
-place kind.MessageAnnotations = 2
-place kind.Properties = 3
-place kind.ApplicationProperties = 4
-place kind.Data = 5
-place kind.AmqpSequence = 5
-place kind.AmqpValue = 5
-place kind.Footer = 6
+-- The order of a kind in a message. The three kinds of a body have one.
+abbrev pub section_order : SectionKind → ℕ
+section_order kind.Header = 0
+section_order kind.DeliveryAnnotations = 1
+section_order kind.MessageAnnotations = 2
+section_order kind.Properties = 3
+section_order kind.ApplicationProperties = 4
+section_order kind.Data = 5
+section_order kind.AmqpSequence = 5
+section_order kind.AmqpValue = 5
+section_order kind.Footer = 6
 
 -- A body can have several sections of this kind.
 abbrev pub may_repeat : SectionKind → Bool
@@ -65,30 +65,30 @@ may_repeat k = false
 -- A section of this kind can follow one of the last kind, or begin a message.
 abbrev pub Follows : Option SectionKind → SectionKind → Type 0
 Follows None k = Unit {0}
-Follows (Some last) k = (place last < place k) ⊎ ((last ≡ k) × (may_repeat k ≡ true))
+Follows (Some last) k = (section_order last < section_order k) ⊎ ((last ≡ k) × (may_repeat k ≡ true))
 
 -- The bytes begin with a section of this kind.
 abbrev pub BeginsSection : SectionKind → List ℕ → Type 0
 BeginsSection k s = (bytes rest : List ℕ) × IsSection k bytes × (s ≡ bytes ++ rest)
 
 -- Why a section of this kind cannot follow one of the last kind.
-abbrev pub Misplaced : MessageError → SectionKind → SectionKind → Type 0
-Misplaced error.OutOfOrder last k = place k < place last
-Misplaced error.Repeated last k = (last ≡ k) × (may_repeat k ≡ false)
-Misplaced error.MixedBody last k = (place k ≡ 5) × (place last ≡ 5) × ¬ (last ≡ k)
-Misplaced e last k = ⊥
+abbrev pub IsMisplaced : MessageError → SectionKind → SectionKind → Type 0
+IsMisplaced error.OutOfOrder last k = section_order k < section_order last
+IsMisplaced error.Repeated last k = (last ≡ k) × (may_repeat k ≡ false)
+IsMisplaced error.MixedBody last k = (section_order k ≡ 5) × (section_order last ≡ 5) × ¬ (last ≡ k)
+IsMisplaced e last k = ⊥
 
 -- Why the bytes do not begin with a section.
 abbrev pub RefusesFirst : List ℕ → MessageError → Type 0
-RefusesFirst s error.Malformed = ¬ HasFrame s
+RefusesFirst s error.Malformed = ¬ HasEncodedValue s
 RefusesFirst s error.UnknownSection =
-    (bytes rest : List ℕ) × IsFrame bytes × (s ≡ bytes ++ rest) × ((k : SectionKind) → selects k bytes ≡ false)
+    (bytes rest : List ℕ) × IsEncodedValue bytes × (s ≡ bytes ++ rest) × ((k : SectionKind) → selects k bytes ≡ false)
 RefusesFirst s e = ⊥
 
 -- Why the bytes do not begin with a section that can follow one of the last kind.
 abbrev pub RefusesSection : Option SectionKind → List ℕ → MessageError → Type 0
 RefusesSection last s e =
-    RefusesFirst s e ⊎ ((k : SectionKind) × BeginsSection k s × IfSome last (λ l. Misplaced e l k))
+    RefusesFirst s e ⊎ ((k : SectionKind) × BeginsSection k s × IfSome last (λ l. IsMisplaced e l k))
 
 -- The bytes are sections in the order of a message, after one of the last kind.
 pub data AreSections : Option SectionKind → List ℕ → Type 0 where

@@ -8,10 +8,10 @@ use Rattle.amqp_ser.specs.Ranged.{IsRanged}
 use Rattle.amqp_ser.specs.Writable.{within_limits, uniform_arrays, placed, writable}
 
 -- The errors without a tree: `TooLong` or `InvalidValue`.
-abbrev pub refuses_none : Error → Type 0
-refuses_none error.TooLong = Unit {0}
-refuses_none error.InvalidValue = Unit {0}
-refuses_none e = ⊥
+abbrev pub RefusesNone : Error → Type 0
+RefusesNone error.TooLong = Unit {0}
+RefusesNone error.InvalidValue = Unit {0}
+RefusesNone e = ⊥
 
 -- The errors for a tree: `TooLong` only if a limit is exceeded, `InvalidValue` only for another
 -- reason.
@@ -23,7 +23,7 @@ RefusesTree t e = ⊥
 -- The length of the encoding if and only if the tree is writable. The tree is then in range.
 abbrev pub IsSizeOf : Option Tree → Result ℕ Error → Type 0
 IsSizeOf None (Ok n) = ⊥
-IsSizeOf None (Err e) = refuses_none e
+IsSizeOf None (Err e) = RefusesNone e
 IsSizeOf (Some t) (Ok n) = (writable t ≡ true) × (n ≡ length (encoding t)) × IsRanged t
 IsSizeOf (Some t) (Err e) = RefusesTree t e
 
@@ -33,5 +33,5 @@ abbrev pub AreBytesOf : Option Tree → Result (List ℕ) Error → Type 0
 AreBytesOf None (Ok bs) = ⊥
 AreBytesOf (Some t) (Ok bs) = (writable t ≡ true) × (bs ≡ encoding t) × IsRanged t
 AreBytesOf t (Err error.OutOfMemory) = Unit {0}
-AreBytesOf None (Err e) = refuses_none e
+AreBytesOf None (Err e) = RefusesNone e
 AreBytesOf (Some t) (Err e) = RefusesTree t e

@@ -6,8 +6,8 @@
 //! traits, the compounds and the trees of Rust's own types. It does not write bytes.
 //!
 //! A serializer that declares compounds of its own, which are not generic, builds them from
-//! `feed_part`, `feed_entry`, `feed_descriptor`, `feed_single`, `feed_any`,
-//! `feed_tuple_field`, `open_body` and `end_fields`: each is one step of a compound, for any serializer and its open compound.
+//! `serialize_part`, `serialize_map_entry`, `serialize_descriptor`, `serialize_single`, `serialize_any_field`,
+//! `serialize_tuple_field`, `open_body` and `end_fields`: each is one step of a compound, for any serializer and its open compound.
 #![tactic(auto)]
 
 mod calls;
@@ -31,11 +31,11 @@ mod whole;
 pub use calls::compounds::SerializeCompounds;
 pub use calls::scalars::SerializeScalars;
 pub use composite::{ListOf, MapOf, SymbolMapOf, VariantOf};
-pub use compound::any_field::feed_any;
+pub use compound::any_field::serialize_any_field;
 pub use compound::body::{end_fields, open_body};
-pub use compound::described::{feed_descriptor, feed_single};
-pub use compound::feed::{feed_entry, feed_part};
-pub use compound::tuple_struct::feed_tuple_field;
+pub use compound::described::{serialize_descriptor, serialize_single};
+pub use compound::part::{serialize_map_entry, serialize_part};
+pub use compound::tuple_struct::serialize_tuple_field;
 pub use compound::{
     Compound, SerializeMap, SerializeSeq, SerializeStruct, SerializeStructVariant, SerializeTuple,
     SerializeTupleStruct, SerializeTupleVariant,

@@ -11,11 +11,11 @@ use Rattle.amqp_ser.specs.Writable.{uniform_arrays, within_limits, scalar_fits, 
 use Rattle.amqp_ser.specs.Composites.{scalar_descriptor, descriptor_of, as_described}
 use Rattle.amqp_ser.specs.Marked.{with_marker}
 use Rattle.amqp_ser.specs.declared.marker.Marker.TheVariants as marker
-use Rattle.amqp_size.specs.Refused.{refuses_none}
+use Rattle.amqp_size.specs.Refused.{RefusesNone}
 use Rattle.amqp_ser.proofs.Bools.{left_false, right_false, le_false, le_true, is_le}
 use Rattle.amqp_size.specs.Position.{position_of, meant, without_prefix, base_position, suits, next, extent, within_limits_at, described_context, the_marker}
-use Rattle.amqp_size.specs.SizeSerializer.{AtPosition, refused}
-use Rattle.amqp_size.specs.AddPart.{Undescribed}
+use Rattle.amqp_size.specs.SizeSerializer.{MeasuresAt, RefusesAt}
+use Rattle.amqp_size.specs.AddPart.{RefusesDescribed}
 use Rattle.amqp_size.specs.declared.position.BasePosition.{BasePosition}
 use Rattle.amqp_size.specs.declared.position.BasePosition.TheVariants as base
 use Rattle.amqp_size.specs.WholePosition.{Position}
@@ -101,7 +101,7 @@ some_of (Some x) h = (x, refl)
 
 -- A tree that is measured at the position of a descriptor is a descriptor within its limit and in
 -- range.
-pub counted_descriptor : (d : Option Tree) (n : ℕ) (after : Context) → AtPosition position.Descriptor d (Ok n) after →
+pub counted_descriptor : (d : Option Tree) (n : ℕ) (after : Context) → MeasuresAt position.Descriptor d (Ok n) after →
     (x : Descriptor) × ((descriptor_of d ≡ Some x) × ((n ≡ length (descriptor_form x)) × ((descriptor_fits x ≡ true) × IsRangedDescriptor x)))
 counted_descriptor None n after h = absurd h
 counted_descriptor (Some t) n after h =
@@ -114,9 +114,9 @@ length-described x t n e = simp length-append (omega arith)
 
 value_step : (p : Position) (k : ℕ) (b : BasePosition) (x : Descriptor) → without_prefix p ≡ base_position b → ((t : Tree) → within_limits_at (position.Value k b) t ≡ within_limits_at p (described x t)) → ((t : Tree) → suits (position.Value k b) t ≡ suits p (described x t)) →
     ((t : Tree) → suits p (described x t) ≡ true → extent (position.Value k b) t ≡ extent p (described x t)) → ((t : Tree) → next p (described x t) ≡ base_position b) → IsRangedDescriptor x →
-    (t : Option Tree) (r : Result ℕ SizeError) (after : Context) → AtPosition (position.Value k b) t r after → AtPosition p (as_described (Some x) t) r after
+    (t : Option Tree) (r : Result ℕ SizeError) (after : Context) → MeasuresAt (position.Value k b) t r after → MeasuresAt p (as_described (Some x) t) r after
 value_step p k b x same limit fitting len then g None (Ok n) after h = absurd h
-value_step p k b x same limit fitting len then g None (Err e) after h = (h.0, h.1 ∙ ap context.Plain (sym same))
+value_step p k b x same limit fitting len then g None (Err e) after h = (h.0, h.1 ∙ ap context.Unmarked (sym same))
 value_step p k b x same limit fitting len then g (Some t) (Ok n) after h =
     let s = sym (fitting t) ∙ h.suited in
     record {
@@ -124,11 +124,11 @@ value_step p k b x same limit fitting len then g (Some t) (Ok n) after h =
       uniform_arrays_it = h.uniform_arrays_it;
       suited = s;
       len = h.len ∙ len t s;
-      position = h.position ∙ ap context.Plain (sym (then t));
+      position = h.position ∙ ap context.Unmarked (sym (then t));
       ranged = (g, h.ranged);
     }
-value_step p k b x same limit fitting len then g (Some t) (Err error.TooLong) after h = (sym (limit t) ∙ h.0, h.1 ∙ ap context.Plain (sym same))
-value_step p k b x same limit fitting len then g (Some t) (Err error.InvalidValue) after h = (ap (λ s. uniform_arrays t && s) (sym (fitting t)) ∙ h.0, h.1 ∙ ap context.Plain (sym same))
+value_step p k b x same limit fitting len then g (Some t) (Err error.TooLong) after h = (sym (limit t) ∙ h.0, h.1 ∙ ap context.Unmarked (sym same))
+value_step p k b x same limit fitting len then g (Some t) (Err error.InvalidValue) after h = (ap (λ s. uniform_arrays t && s) (sym (fitting t)) ∙ h.0, h.1 ∙ ap context.Unmarked (sym same))
 value_step p k b x same limit fitting len then g (Some t) (Err e) after h = absurd h.0
 
 -- The limits of a described value at a position.
@@ -175,45 +175,45 @@ some_context : (u v : Context) → Some u ≡ Some v → v ≡ u
 some_context u v q = cc
 
 -- Equal pending positions permit the same results.
-answered : (u v : Context) (t : Option Tree) (r : Result ℕ SizeError) (after : Context) → v ≡ u → AtPosition (position_of v) (meant v t) r after → AtPosition (position_of u) (meant u t) r after
-answered u v t r after q h = subst (λ w. AtPosition (position_of w) (meant w t) r after) q h
+answered : (u v : Context) (t : Option Tree) (r : Result ℕ SizeError) (after : Context) → v ≡ u → MeasuresAt (position_of v) (meant v t) r after → MeasuresAt (position_of u) (meant u t) r after
+answered u v t r after q h = subst (λ w. MeasuresAt (position_of w) (meant w t) r after) q h
 
 -- A result that is permitted for the value is permitted for the described value.
 pub described_step : (u v : Context) (n : ℕ) (x : Descriptor) → described_context u n ≡ Some v → n ≡ length (descriptor_form x) → descriptor_fits x ≡ true → IsRangedDescriptor x →
-    (t : Option Tree) (r : Result ℕ SizeError) (after : Context) → AtPosition (position_of v) (meant v t) r after → AtPosition (position_of u) (meant u (as_described (Some x) t)) r after
-described_step (context.Plain position.Root) v n x s e f g t r after h =
+    (t : Option Tree) (r : Result ℕ SizeError) (after : Context) → MeasuresAt (position_of v) (meant v t) r after → MeasuresAt (position_of u) (meant u (as_described (Some x) t)) r after
+described_step (context.Unmarked position.Root) v n x s e f g t r after h =
     value_step position.Root (n + 1) base.Root x refl (λ t. limit_here x n e f t) (λ t. refl) (λ t q. sym (length-described x t n e)) (λ t. refl) g t r after
-    (answered (context.Plain (position.Value (n + 1) base.Root)) v t r after (some_context _ v s) h)
-described_step (context.Plain position.InCompound) v n x s e f g t r after h =
+    (answered (context.Unmarked (position.Value (n + 1) base.Root)) v t r after (some_context _ v s) h)
+described_step (context.Unmarked position.InCompound) v n x s e f g t r after h =
     value_step position.InCompound (n + 1) base.InCompound x refl (λ t. limit_here x n e f t) (λ t. refl) (λ t q. sym (length-described x t n e)) (λ t. refl) g t r after
-    (answered (context.Plain (position.Value (n + 1) base.InCompound)) v t r after (some_context _ v s) h)
-described_step (context.Plain position.FirstElement) v n x s e f g t r after h =
+    (answered (context.Unmarked (position.Value (n + 1) base.InCompound)) v t r after (some_context _ v s) h)
+described_step (context.Unmarked position.FirstElement) v n x s e f g t r after h =
     value_step position.FirstElement (n + 1) base.FirstElement x refl (λ t. limit_here x n e f t) (λ t. refl) (λ t q. absurd (never q)) (λ t. refl) g t r after
-    (answered (context.Plain (position.Value (n + 1) base.FirstElement)) v t r after (some_context _ v s) h)
-described_step (context.Plain (position.OtherElement c)) v n x s e f g t r after h =
+    (answered (context.Unmarked (position.Value (n + 1) base.FirstElement)) v t r after (some_context _ v s) h)
+described_step (context.Unmarked (position.OtherElement c)) v n x s e f g t r after h =
     value_step (position.OtherElement c) (n + 1) (base.OtherElement c) x refl (λ t. limit_here x n e f t) (λ t. refl) (λ t q. absurd (never q)) (λ t. refl) g t r after
-    (answered (context.Plain (position.Value (n + 1) (base.OtherElement c))) v t r after (some_context _ v s) h)
-described_step (context.Plain position.Descriptor) v n x s e f g t r after h = cc
-described_step (context.Plain (position.Value k b)) v n x s e f g t r after h =
+    (answered (context.Unmarked (position.Value (n + 1) (base.OtherElement c))) v t r after (some_context _ v s) h)
+described_step (context.Unmarked position.Descriptor) v n x s e f g t r after h = cc
+described_step (context.Unmarked (position.Value k b)) v n x s e f g t r after h =
     value_step (position.Value k b) (k + (n + 1)) b x refl (λ t. limit_after x n k e f t) (λ t. refl)
     (λ t q. let len = length-described x t n e in omega arith) (λ t. refl) g t r after
-    (answered (context.Plain (position.Value (k + (n + 1)) b)) v t r after (some_context _ v s) h)
+    (answered (context.Unmarked (position.Value (k + (n + 1)) b)) v t r after (some_context _ v s) h)
 described_step (context.Array p) v n x s e f g t r after h =
-    subst (λ o. AtPosition p o r after) (sym (no_array_described x t)) (answered (context.Nothing p) v t r after (some_context _ v s) h)
+    subst (λ o. MeasuresAt p o r after) (sym (no_array_described x t)) (answered (context.Nothing p) v t r after (some_context _ v s) h)
 described_step (context.Transparent p) v n x s e f g t r after h =
-    subst (λ o. AtPosition p o r after) (sym (no_transparent_described x t)) (answered (context.Nothing p) v t r after (some_context _ v s) h)
+    subst (λ o. MeasuresAt p o r after) (sym (no_transparent_described x t)) (answered (context.Nothing p) v t r after (some_context _ v s) h)
 described_step (context.Scalar m p) v n x s e f g t r after h =
-    subst (λ o. AtPosition p o r after) (sym (no_scalar_described m x t)) (answered (context.Nothing p) v t r after (some_context _ v s) h)
+    subst (λ o. MeasuresAt p o r after) (sym (no_scalar_described m x t)) (answered (context.Nothing p) v t r after (some_context _ v s) h)
 described_step (context.Nothing p) v n x s e f g t r after h = answered (context.Nothing p) v t r after (some_context _ v s) h
 
 -- After the value, the serializer is at the position of the described value.
 pub described_rest : (u v : Context) (n : ℕ) → described_context u n ≡ Some v → without_prefix (position_of u) ≡ without_prefix (position_of v)
-described_rest (context.Plain position.Root) v n s = sym (ap (λ w. without_prefix (position_of w)) (some_context _ v s))
-described_rest (context.Plain position.InCompound) v n s = sym (ap (λ w. without_prefix (position_of w)) (some_context _ v s))
-described_rest (context.Plain position.FirstElement) v n s = sym (ap (λ w. without_prefix (position_of w)) (some_context _ v s))
-described_rest (context.Plain (position.OtherElement c)) v n s = sym (ap (λ w. without_prefix (position_of w)) (some_context _ v s))
-described_rest (context.Plain position.Descriptor) v n s = cc
-described_rest (context.Plain (position.Value k b)) v n s = sym (ap (λ w. without_prefix (position_of w)) (some_context _ v s))
+described_rest (context.Unmarked position.Root) v n s = sym (ap (λ w. without_prefix (position_of w)) (some_context _ v s))
+described_rest (context.Unmarked position.InCompound) v n s = sym (ap (λ w. without_prefix (position_of w)) (some_context _ v s))
+described_rest (context.Unmarked position.FirstElement) v n s = sym (ap (λ w. without_prefix (position_of w)) (some_context _ v s))
+described_rest (context.Unmarked (position.OtherElement c)) v n s = sym (ap (λ w. without_prefix (position_of w)) (some_context _ v s))
+described_rest (context.Unmarked position.Descriptor) v n s = cc
+described_rest (context.Unmarked (position.Value k b)) v n s = sym (ap (λ w. without_prefix (position_of w)) (some_context _ v s))
 described_rest (context.Array p) v n s = sym (ap (λ w. without_prefix (position_of w)) (some_context _ v s))
 described_rest (context.Transparent p) v n s = sym (ap (λ w. without_prefix (position_of w)) (some_context _ v s))
 described_rest (context.Scalar m p) v n s = sym (ap (λ w. without_prefix (position_of w)) (some_context _ v s))
@@ -231,21 +231,21 @@ past_after k b x n e h t =
     let len = length-described x t n e in
     left_false (is_length (k + length (encoding (described x t)))) (within_limits (described x t)) (le_false (k + length (encoding (described x t))) 18446744073709551615 (omega arith))
 
-too_long : (p : Position) (x : Descriptor) → ((t : Tree) → within_limits_at p (described x t) ≡ false) → (t : Option Tree) (e : SizeError) → e ≡ error.TooLong → AtPosition p (as_described (Some x) t) (Err e) (context.Plain (without_prefix p))
-too_long p x h None e q = (subst refuses_none (sym q) tt, refl)
-too_long p x h (Some t) e q = (subst (λ y. refused p (described x t) y) (sym q) (h t), refl)
+too_long : (p : Position) (x : Descriptor) → ((t : Tree) → within_limits_at p (described x t) ≡ false) → (t : Option Tree) (e : SizeError) → e ≡ error.TooLong → MeasuresAt p (as_described (Some x) t) (Err e) (context.Unmarked (without_prefix p))
+too_long p x h None e q = (subst RefusesNone (sym q) tt, refl)
+too_long p x h (Some t) e q = (subst (λ y. RefusesAt p (described x t) y) (sym q) (h t), refl)
 
-pub no_nested : (x : Descriptor) (t : Option Tree) (e : SizeError) → e ≡ error.InvalidValue → AtPosition position.Descriptor (as_described (Some x) t) (Err e) (context.Plain position.Descriptor)
-no_nested x None e q = (subst refuses_none (sym q) tt, refl)
-no_nested x (Some t) e q = (subst (λ y. refused position.Descriptor (described x t) y) (sym q) (right_false (uniform_arrays t) false refl), refl)
+pub no_nested : (x : Descriptor) (t : Option Tree) (e : SizeError) → e ≡ error.InvalidValue → MeasuresAt position.Descriptor (as_described (Some x) t) (Err e) (context.Unmarked position.Descriptor)
+no_nested x None e q = (subst RefusesNone (sym q) tt, refl)
+no_nested x (Some t) e q = (subst (λ y. RefusesAt position.Descriptor (described x t) y) (sym q) (right_false (uniform_arrays t) false refl), refl)
 
-pub described_refusal : (u : Context) (n : ℕ) (x : Descriptor) (e : SizeError) → Undescribed u n e → n ≡ length (descriptor_form x) → (t : Option Tree) → AtPosition (position_of u) (meant u (as_described (Some x) t)) (Err e) (context.Plain (without_prefix (position_of u)))
-described_refusal (context.Plain position.Root) n x e h l t = too_long position.Root x (past_here x n l h.1) t e h.0
-described_refusal (context.Plain position.InCompound) n x e h l t = too_long position.InCompound x (past_here x n l h.1) t e h.0
-described_refusal (context.Plain position.FirstElement) n x e h l t = too_long position.FirstElement x (past_here x n l h.1) t e h.0
-described_refusal (context.Plain (position.OtherElement c)) n x e h l t = too_long (position.OtherElement c) x (past_here x n l h.1) t e h.0
-described_refusal (context.Plain position.Descriptor) n x e h l t = no_nested x t e h
-described_refusal (context.Plain (position.Value k b)) n x e h l t = too_long (position.Value k b) x (past_after k b x n l h.1) t e h.0
+pub described_refusal : (u : Context) (n : ℕ) (x : Descriptor) (e : SizeError) → RefusesDescribed u n e → n ≡ length (descriptor_form x) → (t : Option Tree) → MeasuresAt (position_of u) (meant u (as_described (Some x) t)) (Err e) (context.Unmarked (without_prefix (position_of u)))
+described_refusal (context.Unmarked position.Root) n x e h l t = too_long position.Root x (past_here x n l h.1) t e h.0
+described_refusal (context.Unmarked position.InCompound) n x e h l t = too_long position.InCompound x (past_here x n l h.1) t e h.0
+described_refusal (context.Unmarked position.FirstElement) n x e h l t = too_long position.FirstElement x (past_here x n l h.1) t e h.0
+described_refusal (context.Unmarked (position.OtherElement c)) n x e h l t = too_long (position.OtherElement c) x (past_here x n l h.1) t e h.0
+described_refusal (context.Unmarked position.Descriptor) n x e h l t = no_nested x t e h
+described_refusal (context.Unmarked (position.Value k b)) n x e h l t = too_long (position.Value k b) x (past_after k b x n l h.1) t e h.0
 described_refusal (context.Array p) n x e h l t = absurd h
 described_refusal (context.Transparent p) n x e h l t = absurd h
 described_refusal (context.Scalar m p) n x e h l t = absurd h

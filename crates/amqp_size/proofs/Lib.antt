@@ -1,7 +1,7 @@
 pub mod Single
 pub mod Described
 pub mod Fixed
-pub mod Holding
+pub mod HeldParts
 pub mod Joined
 pub mod Lengths
 pub mod NoTree
@@ -10,7 +10,7 @@ pub mod Positions
 pub mod Refusing
 pub mod Root
 pub mod Settled
-pub mod Spoil
+pub mod Unwritable
 pub mod Transparent
 pub mod Whole
 pub mod TakesWhole

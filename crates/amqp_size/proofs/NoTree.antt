@@ -8,7 +8,7 @@ use Rattle.amqp_ser.specs.declared.kind.CompoundKind.TheVariants as kinds
 use Rattle.amqp_ser.specs.declared.marker.Marker.TheVariants as marker
 use Rattle.amqp_ser.proofs.Pairing.{Pairing, pairing, paired-even}
 use Rattle.amqp_size.specs.Position.{position_of, meant, resolved_kind_of, is_gathered}
-use Rattle.amqp_size.specs.SizeSerializer.{AtPosition, SingleParts, HoldsGathered, HoldsTransparent, HoldsSingle, Holding}
+use Rattle.amqp_size.specs.SizeSerializer.{MeasuresAt, HasSingleParts, HoldsGathered, HoldsTransparent, HoldsSingle, HoldsParts}
 use Rattle.amqp_size.specs.WholeContext.{Context}
 use Rattle.amqp_size.specs.WholeContext as context
 use Rattle.amqp_size.specs.declared.resolved_kind.ResolvedKind.TheVariants as resolved_kinds
@@ -27,12 +27,12 @@ one_variant i (p ∷ (q ∷ ps)) ts e done n = cc
 refused_when_opened : (u : Context) (k : CompoundKind) (ps : List (Option Tree)) (ts : Trees) → all_trees ps ≡ Some ts → complete k ps ≡ true → (k ≡ kinds.Single → ⊥) → meant u (tree_of_parts k ps) ≡ None → resolved_kind_of u k ≡ resolved_kinds.Refused
 unfolding tree_of_parts
 refused_when_opened u kinds.Single ps ts e done b n = absurd (b refl)
-refused_when_opened (context.Plain p) kinds.List ps ts e done b n = let q : None ≡ Some (list ts) = sym n ∙ ap (as_kind kinds.List) e in cc
-refused_when_opened (context.Plain p) kinds.Map ps ts e done b n =
+refused_when_opened (context.Unmarked p) kinds.List ps ts e done b n = let q : None ≡ Some (list ts) = sym n ∙ ap (as_kind kinds.List) e in cc
+refused_when_opened (context.Unmarked p) kinds.Map ps ts e done b n =
     let m : Pairing ts = pairing ts (sym (paired-even ps ts e) ∙ done) in
     let q : None ≡ Some (map m.pairs) = sym n ∙ ap (as_kind kinds.Map) e ∙ ap as_map m.are in cc
-refused_when_opened (context.Plain p) (kinds.Variant i) ps ts e done b n = let q : None ≡ Some (variant i (list ts)) = sym n ∙ ap (as_kind (kinds.Variant i)) e in cc
-refused_when_opened (context.Plain p) (kinds.NewtypeVariant i) ps ts e done b n = absurd (one_variant i ps ts e done n)
+refused_when_opened (context.Unmarked p) (kinds.Variant i) ps ts e done b n = let q : None ≡ Some (variant i (list ts)) = sym n ∙ ap (as_kind (kinds.Variant i)) e in cc
+refused_when_opened (context.Unmarked p) (kinds.NewtypeVariant i) ps ts e done b n = absurd (one_variant i ps ts e done n)
 refused_when_opened (context.Array p) kinds.List ps ts e done b n = let q : None ≡ Some (array ts) = sym n ∙ ap (λ o. with_marker marker.Array (as_kind kinds.List o)) e in cc
 refused_when_opened (context.Array p) kinds.Map ps ts e done b n = refl
 refused_when_opened (context.Array p) (kinds.Variant i) ps ts e done b n = refl
@@ -65,9 +65,9 @@ transparent_none start kind compound ps h n =
     let at = transparent_shape start.context kind h.shaped in
     let q : None ≡ Some (transparent h.ts) = sym n ∙ ap (λ u. meant u (tree_of_parts kind ps)) at.0 ∙ ap (λ k. with_marker marker.Transparent (tree_of_parts k ps)) at.1 ∙ ap (λ o. with_marker marker.Transparent (as_kind kinds.List o)) h.trees in cc
 
-one_part : (start : SizeSerializer) (compound : OpenCompound) (ps : List (Option Tree)) → SingleParts start compound ps → complete kinds.Single ps ≡ true → meant start.context (tree_of_parts kinds.Single ps) ≡ None → ⊥
+one_part : (start : SizeSerializer) (compound : OpenCompound) (ps : List (Option Tree)) → HasSingleParts start compound ps → complete kinds.Single ps ≡ true → meant start.context (tree_of_parts kinds.Single ps) ≡ None → ⊥
 one_part start compound [] q done n = cc
-one_part start compound (p ∷ []) q done n = subst (λ o. AtPosition (position_of start.context) o (Ok compound.sum) compound.inner_context) (sym (ap (meant start.context) (whole_single p)) ∙ n) q.1
+one_part start compound (p ∷ []) q done n = subst (λ o. MeasuresAt (position_of start.context) o (Ok compound.sum) compound.inner_context) (sym (ap (meant start.context) (whole_single p)) ∙ n) q.1
 one_part start compound (p ∷ (q ∷ ps)) r done n = cc
 
 single_none : (start : SizeSerializer) (kind : CompoundKind) (compound : OpenCompound) (ps : List (Option Tree)) → HoldsSingle start kind compound ps → complete kind ps ≡ true → meant start.context (tree_of_parts kind ps) ≡ None → ⊥
@@ -75,7 +75,7 @@ single_none start kind compound ps h done n =
     one_part start compound ps h.parts (subst (λ k. complete k ps ≡ true) h.kind_is done) (ap (λ k. meant start.context (tree_of_parts k ps)) (sym h.kind_is) ∙ n)
 
 -- For every kind.
-pub open_none : (start : SizeSerializer) (kind : CompoundKind) (compound : OpenCompound) (ps : List (Option Tree)) → Holding start kind compound ps → complete kind ps ≡ true → meant start.context (tree_of_parts kind ps) ≡ None → compound.resolved_kind ≡ resolved_kinds.Refused
+pub open_none : (start : SizeSerializer) (kind : CompoundKind) (compound : OpenCompound) (ps : List (Option Tree)) → HoldsParts start kind compound ps → complete kind ps ≡ true → meant start.context (tree_of_parts kind ps) ≡ None → compound.resolved_kind ≡ resolved_kinds.Refused
 open_none start kind compound ps (inl h) done n = gathered_none start kind compound ps h done n
 open_none start kind compound ps (inr (inl h)) done n = absurd (transparent_none start kind compound ps h n)
 open_none start kind compound ps (inr (inr h)) done n = absurd (single_none start kind compound ps h done n)

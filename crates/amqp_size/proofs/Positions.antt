@@ -7,10 +7,10 @@ use Rattle.amqp_ser.specs.Limits.{is_length}
 use Rattle.amqp_ser.specs.Encoding.{encoding, constructor}
 use Rattle.amqp_ser.specs.Writable.{same_constructor, within_limits, inside, placed}
 use Rattle.amqp_ser.specs.Composites.{descriptor_of}
-use Rattle.amqp_size.specs.Refused.{refuses_none}
+use Rattle.amqp_size.specs.Refused.{RefusesNone}
 use Rattle.amqp_ser.proofs.Bools.{right_false}
 use Rattle.amqp_size.specs.Position.{meant, without_prefix, suits, element, form, extent, within_limits_at, takes_described, is_gathered, limit_of}
-use Rattle.amqp_size.specs.SizeSerializer.{AtPosition, refused, inner_position_of}
+use Rattle.amqp_size.specs.SizeSerializer.{MeasuresAt, RefusesAt, inner_position_of}
 use Rattle.amqp_size.specs.WholePosition.{Position}
 use Rattle.amqp_size.specs.WholePosition.{Root, InCompound, FirstElement, OtherElement, Descriptor, Value}
 use Rattle.amqp_size.specs.WholeContext.{Context}
@@ -66,21 +66,21 @@ extent_inner true no_trees t = refl
 extent_inner true (more v ts) t = extent_element (constructor v) t
 
 pub meant_none : (u : Context) → meant u None ≡ None
-meant_none (context.Plain p) = refl
+meant_none (context.Unmarked p) = refl
 meant_none (context.Array p) = refl
 meant_none (context.Transparent p) = refl
 meant_none (context.Scalar m p) = refl
 meant_none (context.Nothing p) = refl
 
-pub refused-none : (p : Position) (t : Tree) (e : SizeError) → refused p t e → refuses_none e
-refused-none p t error.TooLong h = tt
-refused-none p t error.InvalidValue h = tt
-refused-none p t e h = absurd h
+pub refuses-none : (p : Position) (t : Tree) (e : SizeError) → RefusesAt p t e → RefusesNone e
+refuses-none p t error.TooLong h = tt
+refuses-none p t error.InvalidValue h = tt
+refuses-none p t e h = absurd h
 
 -- Every permitted error is also permitted if there is no tree, and resets the serializer.
-pub refusal : (p : Position) (o : Option Tree) (e : SizeError) (after : Context) → AtPosition p o (Err e) after → refuses_none e × (after ≡ context.Plain (without_prefix p))
+pub refusal : (p : Position) (o : Option Tree) (e : SizeError) (after : Context) → MeasuresAt p o (Err e) after → RefusesNone e × (after ≡ context.Unmarked (without_prefix p))
 refusal p None e after h = h
-refusal p (Some t) e after h = (refused-none p t e h.0, h.1)
+refusal p (Some t) e after h = (refuses-none p t e h.0, h.1)
 
 pub gathered_limit : (s : ResolvedKind) → is_gathered s ≡ true → limit_of s ≡ 4294967291
 gathered_limit resolved_kind.List h = refl

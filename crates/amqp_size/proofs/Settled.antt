@@ -4,7 +4,7 @@ use Rattle.std.proofs.Common.{◌≡◌, ℕ, ◌+◌, ◌<◌, Option, Some, No
 use Rattle.amqp_ser.specs.Tree.{Tree}
 use Rattle.amqp_ser.specs.Encoding.{constructor}
 use Rattle.amqp_size.specs.Position.{base_position, element, next}
-use Rattle.amqp_size.specs.SizeSerializer.{AtPosition}
+use Rattle.amqp_size.specs.SizeSerializer.{MeasuresAt}
 use Rattle.amqp_size.specs.State.{position_at, context_at}
 use Rattle.amqp_size.specs.WholePosition.{Position}
 use Rattle.amqp_size.specs.WholePosition as position
@@ -22,7 +22,7 @@ is_alone (position.Value h b) = false
 is_alone p = true
 
 abbrev alone : Context → Bool
-alone (context.Plain p) = is_alone p
+alone (context.Unmarked p) = is_alone p
 alone u = false
 
 stand_alone : (b : BasePosition) → is_alone (base_position b) ≡ true
@@ -52,13 +52,13 @@ same_position kept.Descriptor h k e = refl
 same_position (kept.Value b) h k e = cc
 
 same_context : (u : KeptContext) (h k : ℕ) → alone (context_at u h) ≡ true → context_at u k ≡ context_at u h
-same_context (kept_context.Plain p) h k e = ap context.Plain (same_position p h k e)
+same_context (kept_context.Unmarked p) h k e = ap context.Unmarked (same_position p h k e)
 same_context (kept_context.Array p) h k e = cc
 same_context (kept_context.Transparent p) h k e = cc
 same_context (kept_context.Scalar m p) h k e = cc
 same_context (kept_context.Nothing p) h k e = cc
 
 -- Therefore another length next to the position changes nothing.
-pub settled : (p : Position) (o : Option Tree) (n : ℕ) (u : KeptContext) (h k : ℕ) → AtPosition p o (Ok n) (context_at u h) → context_at u k ≡ context_at u h
+pub settled : (p : Position) (o : Option Tree) (n : ℕ) (u : KeptContext) (h k : ℕ) → MeasuresAt p o (Ok n) (context_at u h) → context_at u k ≡ context_at u h
 settled p None n u h k c = absurd c
 settled p (Some t) n u h k c = same_context u h k (ap alone c.position ∙ next_alone p t)

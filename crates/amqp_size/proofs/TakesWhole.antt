@@ -9,7 +9,7 @@ use Rattle.amqp_size.specs.Position.{position_of, meant}
 use Rattle.amqp_size.specs.WholePosition.{Root, InCompound, FirstElement, OtherElement, Descriptor, Value}
 use Rattle.amqp_size.specs.WholeContext.{Context}
 use Rattle.amqp_size.specs.WholeContext as context
-use Rattle.amqp_size.specs.SizeSerializer.{AtPosition, SizePermits, TakesWhole}
+use Rattle.amqp_size.specs.SizeSerializer.{MeasuresAt, SizePermits, TakesWhole}
 use Rattle.amqp_size.specs.declared.size_error.SizeError.{SizeError}
 use Rattle.amqp_size.specs.declared.serializer.SizeSerializer.{SizeSerializer}
 
@@ -25,13 +25,13 @@ placed_inside (transparent ts) h = cc
 
 pub whole_at : (u : Context) (t : Tree) (n : ℕ) → TakesWhole u
     → (within_limits t ≡ true) × ((uniform_arrays t ≡ true) × ((inside t ≡ true) × (n ≡ length (encoding t)))) → IsRanged t
-    → AtPosition (position_of u) (meant u (Some t)) (Ok n) u
-whole_at (context.Plain Root) t n k h g = record { within_limits_it = h.0; uniform_arrays_it = h.1.0; suited = placed_inside t h.1.1.0; len = h.1.1.1; position = refl; ranged = g }
-whole_at (context.Plain InCompound) t n k h g = record { within_limits_it = h.0; uniform_arrays_it = h.1.0; suited = h.1.1.0; len = h.1.1.1; position = refl; ranged = g }
-whole_at (context.Plain FirstElement) t n k h g = absurd k
-whole_at (context.Plain (OtherElement c)) t n k h g = absurd k
-whole_at (context.Plain Descriptor) t n k h g = absurd k
-whole_at (context.Plain (Value m b)) t n k h g = absurd k
+    → MeasuresAt (position_of u) (meant u (Some t)) (Ok n) u
+whole_at (context.Unmarked Root) t n k h g = record { within_limits_it = h.0; uniform_arrays_it = h.1.0; suited = placed_inside t h.1.1.0; len = h.1.1.1; position = refl; ranged = g }
+whole_at (context.Unmarked InCompound) t n k h g = record { within_limits_it = h.0; uniform_arrays_it = h.1.0; suited = h.1.1.0; len = h.1.1.1; position = refl; ranged = g }
+whole_at (context.Unmarked FirstElement) t n k h g = absurd k
+whole_at (context.Unmarked (OtherElement c)) t n k h g = absurd k
+whole_at (context.Unmarked Descriptor) t n k h g = absurd k
+whole_at (context.Unmarked (Value m b)) t n k h g = absurd k
 whole_at (context.Array p) t n k h g = absurd k
 whole_at (context.Transparent p) t n k h g = absurd k
 whole_at (context.Scalar m p) t n k h g = absurd k
@@ -41,5 +41,5 @@ whole_at (context.Nothing p) t n k h g = absurd k
 pub measured_at : (s after : SizeSerializer) (t : Tree) (r : Option ℕ) → TakesWhole s.context → after.context ≡ s.context
     → IfSome r (λ n. (within_limits t ≡ true) × ((uniform_arrays t ≡ true) × ((inside t ≡ true) × (n ≡ length (encoding t))))) → IfSome r (λ _. IsRanged t)
     → MatchOption r ((o : Option Tree) (a : Result ℕ SizeError) (end : SizeSerializer) → SizePermits after o a end → SizePermits s o a end) (λ n. SizePermits s (Some t) (Ok n) after)
-measured_at s after t None k same h g = λ o a end p. subst (λ u. AtPosition (position_of u) (meant u o) a end.context) same p
-measured_at s after t (Some n) k same h g = subst (λ u. AtPosition (position_of s.context) (meant s.context (Some t)) (Ok n) u) (sym same) (whole_at s.context t n k h g)
+measured_at s after t None k same h g = λ o a end p. subst (λ u. MeasuresAt (position_of u) (meant u o) a end.context) same p
+measured_at s after t (Some n) k same h g = subst (λ u. MeasuresAt (position_of s.context) (meant s.context (Some t)) (Ok n) u) (sym same) (whole_at s.context t n k h g)

@@ -15,7 +15,7 @@ constructor_len p q = 0
 
 -- The same in an array. Other compounds have no constructor.
 abbrev pub constructor_len_in : Bool → Context → Context → ℕ
-constructor_len_in true (context.Plain p) (context.Plain q) = constructor_len p q
+constructor_len_in true (context.Unmarked p) (context.Unmarked q) = constructor_len p q
 constructor_len_in arr u v = 0
 
 -- One more part exceeds a limit.
@@ -23,7 +23,7 @@ abbrev pub PassesLimit : Bool → ℕ → ℕ → Type 0
 PassesLimit array count sum = (4294967291 < sum) ⊎ ((array ≡ true) × (4294967295 ≤ count))
 
 -- Why no value is accepted after a descriptor of this length.
-abbrev pub Undescribed : Context → ℕ → SizeError → Type 0
-Undescribed (context.Plain Descriptor) n e = e ≡ error.InvalidValue
-Undescribed (context.Plain p) n e = (e ≡ error.TooLong) × (18446744073709551615 < prefix_len_of p + (n + 1))
-Undescribed u n e = ⊥
+abbrev pub RefusesDescribed : Context → ℕ → SizeError → Type 0
+RefusesDescribed (context.Unmarked Descriptor) n e = e ≡ error.InvalidValue
+RefusesDescribed (context.Unmarked p) n e = (e ≡ error.TooLong) × (18446744073709551615 < prefix_len_of p + (n + 1))
+RefusesDescribed u n e = ⊥

@@ -16,7 +16,7 @@ told (Ok n) = Ok n
 told (Err e) = Err (error_of e)
 
 -- If there is no tree, the error is `TooLong` or `InvalidValue`.
-abbrev pub refuses_none : SizeError → Type 0
-refuses_none size_error.TooLong = Unit {0}
-refuses_none size_error.InvalidValue = Unit {0}
-refuses_none size_error.OutOfMemory = ⊥
+abbrev pub RefusesNone : SizeError → Type 0
+RefusesNone size_error.TooLong = Unit {0}
+RefusesNone size_error.InvalidValue = Unit {0}
+RefusesNone size_error.OutOfMemory = ⊥

@@ -47,7 +47,7 @@ impl Model for OpenCompound {
 
 impl OpenCompound {
     ghost use Rattle.amqp_size.specs.State.{position_at, context_at};
-    ghost use Rattle.amqp_size.specs.AddPart.{constructor_len_in, PassesLimit, Undescribed};
+    ghost use Rattle.amqp_size.specs.AddPart.{constructor_len_in, PassesLimit, RefusesDescribed};
     ghost use Rattle.amqp_size.specs.Position.{position_of, without_prefix, is_array, is_gathered, inner_context_of, described_context};
 
     /// Returns an empty compound of this kind at this position.
@@ -234,8 +234,10 @@ impl OpenCompound {
     {
         // After the first element, `after` contains its constructor.
         let opened = match (self.inner_context, after) {
-            (Context::Plain(Position::FirstElement), Context::Plain(Position::OtherElement(_))) =>
-                1,
+            (
+                Context::Unmarked(Position::FirstElement),
+                Context::Unmarked(Position::OtherElement(_)),
+            ) => 1,
             _ => 0,
         };
         let sum = add_within(add_within(self.sum, size, MAX_LEN)?, opened, MAX_LEN)?;
@@ -285,13 +287,13 @@ impl OpenCompound {
     pub(crate) fn describe(&mut self, size: usize) -> Result<(), SizeError>
         ensures kept { MatchResult result
             (λ _. described_context self.old.inner_context size ≡ Some self.new.inner_context)
-            (λ e. (self.new ≡ self.old) × Undescribed self.old.inner_context size e) }
+            (λ e. (self.new ≡ self.old) × RefusesDescribed self.old.inner_context size e) }
         ensures position { without_prefix self.new.position ≡ without_prefix self.old.position }
         ensures resolved_kind { self.new.resolved_kind ≡ self.old.resolved_kind }
         ensures sum { self.new.sum ≡ self.old.sum }
         ensures count { self.new.count ≡ self.old.count }
     {
-        let Context::Plain(position) = self.inner_context else {
+        let Context::Unmarked(position) = self.inner_context else {
             self.inner_context = Context::Nothing(self.inner_context.position());
             return Ok(());
         };
@@ -304,7 +306,7 @@ impl OpenCompound {
             return Err(SizeError::TooLong);
         }
         self.prefix_len = prefix_len + (size + 1);
-        self.inner_context = Context::Plain(inner_context);
+        self.inner_context = Context::Unmarked(inner_context);
         Ok(())
     }
 }

@@ -8,26 +8,26 @@ use Rattle.amqp_ser.specs.Composites.{as_described, descriptor_of}
 use Rattle.amqp_value.specs.Image.{image}
 use Rattle.amqp_value.specs.TreeOf.{tree_of}
 use Rattle.amqp_value.specs.declared.value.Value.{Value}
-use Rattle.amqp_to_value.specs.PendingDescriptors.{described_by, standing}
+use Rattle.amqp_to_value.specs.PendingDescriptors.{described_by, awaiting_value}
 use Rattle.amqp_to_value.specs.ValueSerializer.{IsKeepingDescriptor, Leaves, meant_by, ValuePermits}
-use Rattle.amqp_to_value.specs.ImageOf.{refuses, StandsFor, IsImageOf}
+use Rattle.amqp_to_value.specs.ImageOf.{RefusesImage, Represents, IsImageOf}
 use Rattle.amqp_to_value.specs.PendingMarker.{as_descriptor, meant}
 use Rattle.amqp_to_value.specs.declared.pending_marker.PendingMarker.{PendingMarker}
 use Rattle.amqp_to_value.specs.declared.serializer.Serializer.{Serializer}
 use Rattle.amqp_to_value.proofs.AnswerLemmas.{none_refused, none_too}
 use Rattle.amqp_to_value.proofs.LazyLemmas.{read_refused}
-use Rattle.amqp_to_value.proofs.PendingDescriptorLemmas.{standing_none}
+use Rattle.amqp_to_value.proofs.PendingDescriptorLemmas.{awaiting_none}
 
 -- A value that represents a scalar gives the same descriptor as the scalar.
-same_scalar : (v : Value) (s : Scalar) → StandsFor v (Some (scalar s)) → descriptor_of (Some (scalar s)) ≡ descriptor_of (Some (tree_of v))
+same_scalar : (v : Value) (s : Scalar) → Represents v (Some (scalar s)) → descriptor_of (Some (scalar s)) ≡ descriptor_of (Some (tree_of v))
 same_scalar v s h = ap (λ u. descriptor_of (Some (image u))) (sym h.1) ∙ ap (λ u. descriptor_of (Some u)) (sym h.2)
 
-scalar_descriptor : (v : Value) (s : Scalar) → StandsFor v (as_descriptor (Some (scalar s))) → descriptor_of (Some (scalar s)) ≡ descriptor_of (Some (tree_of v))
+scalar_descriptor : (v : Value) (s : Scalar) → Represents v (as_descriptor (Some (scalar s))) → descriptor_of (Some (scalar s)) ≡ descriptor_of (Some (tree_of v))
 scalar_descriptor v (ulong n) h = same_scalar v (ulong n) h
 scalar_descriptor v (symbol bs) h = same_scalar v (symbol bs) h
 scalar_descriptor v s h = absurd h
 
-pub same_descriptor : (v : Value) (d : Option Tree) → StandsFor v (as_descriptor d) → descriptor_of d ≡ descriptor_of (Some (tree_of v))
+pub same_descriptor : (v : Value) (d : Option Tree) → Represents v (as_descriptor d) → descriptor_of d ≡ descriptor_of (Some (tree_of v))
 same_descriptor v None h = absurd h
 same_descriptor v (Some (scalar s)) h = scalar_descriptor v s h
 same_descriptor v (Some t) h = absurd h
@@ -35,21 +35,21 @@ same_descriptor v (Some t) h = absurd h
 -- The result on a descriptor is permitted for `as_descriptor` of its tree.
 pub descriptor_answer : (start s : Serializer) (d : Option Tree) (r : Result Value Error) → IsKeepingDescriptor start s → IsImageOf (meant_by s d) r → IsImageOf (as_descriptor d) r
 descriptor_answer start s d r keeping is =
-    subst (λ o. IsImageOf o r) (ap (λ ds. described_by ds (meant s.pending d)) (standing_none s.descriptors keeping.1) ∙ ap (λ u. meant u d) keeping.0) is
+    subst (λ o. IsImageOf o r) (ap (λ ds. described_by ds (meant s.pending d)) (awaiting_none s.descriptors keeping.1) ∙ ap (λ u. meant u d) keeping.0) is
 
 -- If there is no descriptor, `InvalidValue` is permitted for the described value.
-pub no_descriptor : (start : Serializer) (d t : Option Tree) → descriptor_of d ≡ None → refuses error.InvalidValue (meant_by start (as_described (descriptor_of d) t))
-no_descriptor start d t none = subst (λ o. refuses error.InvalidValue (meant_by start (as_described o t))) (sym none) (none_refused start)
+pub no_descriptor : (start : Serializer) (d t : Option Tree) → descriptor_of d ≡ None → RefusesImage error.InvalidValue (meant_by start (as_described (descriptor_of d) t))
+no_descriptor start d t none = subst (λ o. RefusesImage error.InvalidValue (meant_by start (as_described o t))) (sym none) (none_refused start)
 
-memory_alone : (start : Serializer) (e : Error) (o : Option Tree) → e ≡ error.OutOfMemory → refuses e o
-memory_alone start e o is = subst (λ x. refuses x o) (sym is) tt
+memory_alone : (start : Serializer) (e : Error) (o : Option Tree) → e ≡ error.OutOfMemory → RefusesImage e o
+memory_alone start e o is = subst (λ x. RefusesImage x o) (sym is) tt
 
-scalar_refused : (start : Serializer) (s : Scalar) (e : Error) → refuses e (as_descriptor (Some (scalar s))) → (t : Option Tree) → refuses e (meant_by start (as_described (descriptor_of (Some (scalar s))) t))
+scalar_refused : (start : Serializer) (s : Scalar) (e : Error) → RefusesImage e (as_descriptor (Some (scalar s))) → (t : Option Tree) → RefusesImage e (meant_by start (as_described (descriptor_of (Some (scalar s))) t))
 scalar_refused start (ulong n) e r t = memory_alone start e _ (read_refused e (scalar (ulong n)) (scalar (ulong n)) refl r)
 scalar_refused start (symbol bs) e r t = memory_alone start e _ (read_refused e (scalar (symbol bs)) (scalar (symbol bs)) refl r)
 scalar_refused start s e r t = none_too start e r
 
-pub descriptor_refused : (start : Serializer) (d : Option Tree) (e : Error) → refuses e (as_descriptor d) → (t : Option Tree) → refuses e (meant_by start (as_described (descriptor_of d) t))
+pub descriptor_refused : (start : Serializer) (d : Option Tree) (e : Error) → RefusesImage e (as_descriptor d) → (t : Option Tree) → RefusesImage e (meant_by start (as_described (descriptor_of d) t))
 descriptor_refused start None e r t = none_too start e r
 descriptor_refused start (Some (scalar s)) e r t = scalar_refused start s e r t
 descriptor_refused start (Some u) e r t = none_too start e r
@@ -70,10 +70,10 @@ leaves-prefix others own d (Err e) s k = (k.0, ((d ∷ []) ++ k.1.0, k.1.1 ∙ a
 -- it.
 pub permitted_before : (start : Serializer) (inner : PendingMarker) (x : Descriptor) (d t : Option Tree) (r : Result Value Error) (after : Serializer) → descriptor_of d ≡ Some x
     → as_described (Some x) (meant inner t) ≡ meant start.pending (as_described (Some x) t)
-    → ValuePermits (record { alloc = start.alloc; pending = inner; descriptors = record { kept = start.descriptors.kept; later = standing start.descriptors ++ (x ∷ []); next = true; room = 0 }; capacity = start.capacity }) t r after
+    → ValuePermits (record { alloc = start.alloc; pending = inner; descriptors = record { kept = start.descriptors.kept; later = awaiting_value start.descriptors ++ (x ∷ []); next = true; room = 0 }; capacity = start.capacity }) t r after
     → ValuePermits start (as_described (descriptor_of d) t) r after
 permitted_before start inner x d t r after is means p = (
   subst (λ o. IsImageOf o r)
-      (described_by-last (standing start.descriptors) x (meant inner t) ∙ ap (described_by (standing start.descriptors)) (means ∙ ap (λ o. meant start.pending (as_described o t)) (sym is))) p.0,
-  leaves-prefix start.descriptors.kept (standing start.descriptors) x r after p.1,
+      (described_by-last (awaiting_value start.descriptors) x (meant inner t) ∙ ap (described_by (awaiting_value start.descriptors)) (means ∙ ap (λ o. meant start.pending (as_described o t)) (sym is))) p.0,
+  leaves-prefix start.descriptors.kept (awaiting_value start.descriptors) x r after p.1,
 )

@@ -5,7 +5,7 @@ use mir.Syntax.{named}
 use Rattle.amqp_data.specs.declared.error.Error.{Error}
 use Rattle.amqp_ser.specs.Tree.{Tree}
 use Rattle.amqp_ser.specs.Compounds.{tree_of_parts, paired}
-use Rattle.amqp_ser.specs.Feeding.{Feeds}
+use Rattle.amqp_ser.specs.CompoundSteps.{SerializesPart}
 use Rattle.amqp_ser.specs.declared.kind.CompoundKind.TheVariants as kind
 use Rattle.amqp_to_value.specs.ValueSerializer.{ValueHas, ValuePermits}
 use Rattle.amqp_to_value.specs.declared.open_value.OpenValue.{OpenValue}
@@ -34,9 +34,9 @@ abbrev pub ListHas : Serializer → SeqSerializer OpenValue → List (Option Tre
 ListHas start list elements = ValueHas start kind.List list.serializer.now list.compound elements
 
 -- The list accepts one more element, or is unchanged.
-abbrev pub FeedsList : Option Tree → SeqSerializer OpenValue → Result (Unit {0}) Error → SeqSerializer OpenValue → Type 0
-FeedsList element before result after =
-    Feeds ValuePermits ValueHas kind.List element before.serializer.now before.compound result after.serializer.now after.compound
+abbrev pub SerializesListPart : Option Tree → SeqSerializer OpenValue → Result (Unit {0}) Error → SeqSerializer OpenValue → Type 0
+SerializesListPart element before result after =
+    SerializesPart ValuePermits ValueHas kind.List element before.serializer.now before.compound result after.serializer.now after.compound
 
 -- Like the definitions above, for a map.
 abbrev pub map_reference : MapSerializer OpenValue → MutBor Serializer
@@ -53,13 +53,13 @@ MapHas start map parts = ValueHas start kind.Map map.serializer.now map.compound
 abbrev pub has_key : MapSerializer OpenValue → Bool
 has_key map = map.pending
 
-abbrev pub FeedsMap : Option Tree → MapSerializer OpenValue → Result (Unit {0}) Error → MapSerializer OpenValue → Type 0
-FeedsMap part before result after =
-    Feeds ValuePermits ValueHas kind.Map part before.serializer.now before.compound result after.serializer.now after.compound
+abbrev pub SerializesMapPart : Option Tree → MapSerializer OpenValue → Result (Unit {0}) Error → MapSerializer OpenValue → Type 0
+SerializesMapPart part before result after =
+    SerializesPart ValuePermits ValueHas kind.Map part before.serializer.now before.compound result after.serializer.now after.compound
 
 -- The map accepts one more pair, or is unchanged.
-abbrev pub FeedsPair : Option Tree → Option Tree → MapSerializer OpenValue → Result (Unit {0}) Error → MapSerializer OpenValue → Type 0
-FeedsPair key value before result after =
+abbrev pub SerializesPair : Option Tree → Option Tree → MapSerializer OpenValue → Result (Unit {0}) Error → MapSerializer OpenValue → Type 0
+SerializesPair key value before result after =
     (start : Serializer) (ps : List (Option Tree)) → MapHas start before ps → paired ps ≡ true →
     MatchResult result
     (λ _. MapHas start after (ps ++ (key ∷ (value ∷ []))))
@@ -83,9 +83,9 @@ lends_of_variant fields lent = Lends (variant.the_row (record { mir = named 1; l
 abbrev pub VariantHas : Serializer → ℕ → VariantSerializer OpenValue → List (Option Tree) → Type 0
 VariantHas start index variant fields = ValueHas start (kind.Variant index) variant.serializer.now variant.compound fields
 
-abbrev pub FeedsVariant : Option Tree → VariantSerializer OpenValue → Result (Unit {0}) Error → VariantSerializer OpenValue → Type 0
-FeedsVariant field before result after =
-    (index : ℕ) → Feeds ValuePermits ValueHas (kind.Variant index) field before.serializer.now before.compound result after.serializer.now after.compound
+abbrev pub SerializesVariantPart : Option Tree → VariantSerializer OpenValue → Result (Unit {0}) Error → VariantSerializer OpenValue → Type 0
+SerializesVariantPart field before result after =
+    (index : ℕ) → SerializesPart ValuePermits ValueHas (kind.Variant index) field before.serializer.now before.compound result after.serializer.now after.compound
 
 -- Like the definitions above, for a variant with named fields.
 abbrev pub struct_variant_reference : StructVariantSerializer OpenValue → MutBor Serializer
@@ -98,6 +98,6 @@ lends_of_struct_variant fields lent = Lends (struct_variant.the_row (record { mi
 abbrev pub StructVariantHas : Serializer → ℕ → StructVariantSerializer OpenValue → List (Option Tree) → Type 0
 StructVariantHas start index variant fields = ValueHas start (kind.Variant index) variant.serializer.now variant.compound fields
 
-abbrev pub FeedsStructVariant : Option Tree → StructVariantSerializer OpenValue → Result (Unit {0}) Error → StructVariantSerializer OpenValue → Type 0
-FeedsStructVariant field before result after =
-    (index : ℕ) → Feeds ValuePermits ValueHas (kind.Variant index) field before.serializer.now before.compound result after.serializer.now after.compound
+abbrev pub SerializesStructVariantPart : Option Tree → StructVariantSerializer OpenValue → Result (Unit {0}) Error → StructVariantSerializer OpenValue → Type 0
+SerializesStructVariantPart field before result after =
+    (index : ℕ) → SerializesPart ValuePermits ValueHas (kind.Variant index) field before.serializer.now before.compound result after.serializer.now after.compound

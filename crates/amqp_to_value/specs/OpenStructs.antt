@@ -5,8 +5,8 @@ use mir.Syntax.{named}
 use Rattle.amqp_data.specs.declared.error.Error.{Error}
 use Rattle.amqp_data.specs.declared.error.Error.TheVariants.{InvalidValue}
 use Rattle.amqp_ser.specs.Tree.{Tree}
-use Rattle.amqp_ser.specs.Structs.{Stands, single_or_list}
-use Rattle.amqp_ser.specs.StructFeeding.{EndStep, FieldStep, TupleFieldStep}
+use Rattle.amqp_ser.specs.Structs.{HasDescribed, single_or_list}
+use Rattle.amqp_ser.specs.StructSteps.{EndStep, FieldStep, TupleFieldStep}
 use Rattle.amqp_ser.specs.declared.kind.CompoundKind.{CompoundKind}
 use Rattle.amqp_ser.specs.declared.struct_encoding.StructEncoding.{StructEncoding}
 use Rattle.amqp_value.specs.declared.value.Value.{Value}
@@ -42,7 +42,7 @@ has_field fields = fields.opened
 
 -- The struct, which this serializer opened, has this descriptor, if any, and these parts.
 abbrev pub StructHas : Serializer → Option (Option Tree) → CompoundKind → StructSerializer OpenValue → List (Option Tree) → Type 0
-StructHas start prefix kind fields parts = Stands ValuePermits ValueHas start prefix kind fields.serializer.now fields.compound parts
+StructHas start prefix kind fields parts = HasDescribed ValuePermits ValueHas start prefix kind fields.serializer.now fields.compound parts
 
 -- The effect of serializing a field with this key: `FieldStep` has the cases.
 abbrev pub StructFieldStep : List ℕ → Option Tree → StructSerializer OpenValue → Result (Unit {0}) Error → StructSerializer OpenValue → Type 0
@@ -76,7 +76,7 @@ abbrev pub is_open : TupleStructSerializer OpenValue → Bool
 is_open fields = fields.opened
 
 abbrev pub TupleStructHas : Serializer → Option (Option Tree) → CompoundKind → TupleStructSerializer OpenValue → List (Option Tree) → Type 0
-TupleStructHas start prefix kind fields parts = Stands ValuePermits ValueHas start prefix kind fields.serializer.now fields.compound parts
+TupleStructHas start prefix kind fields parts = HasDescribed ValuePermits ValueHas start prefix kind fields.serializer.now fields.compound parts
 
 abbrev pub TupleStructFieldStep : Option Tree → TupleStructSerializer OpenValue → Result (Unit {0}) Error → TupleStructSerializer OpenValue → Type 0
 TupleStructFieldStep value before result after =

@@ -34,8 +34,8 @@ pub record DescriptorsState : Type 0 where
   pub room : ℕ
 
 -- The descriptors of the next value.
-abbrev pub standing : DescriptorsState → List Descriptor
-standing p = if p.next then p.later else []
+abbrev pub awaiting_value : DescriptorsState → List Descriptor
+awaiting_value p = if p.next then p.later else []
 
 -- The range of the descriptors `own`, which come after `others`.
 abbrev pub saved_of : List Descriptor → List Descriptor → Saved

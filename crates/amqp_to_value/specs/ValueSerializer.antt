@@ -9,8 +9,8 @@ use Rattle.amqp_ser.specs.declared.kind.CompoundKind.{CompoundKind}
 use Rattle.amqp_ser.specs.declared.kind.CompoundKind.TheVariants as kind
 use Rattle.amqp_ser.specs.declared.marker.Marker.TheVariants as marker
 use Rattle.amqp_value.specs.declared.value.Value.{Value}
-use Rattle.amqp_to_value.specs.PendingDescriptors.{saved_of, described_by, standing}
-use Rattle.amqp_to_value.specs.ImageOf.{IsImageOf, StandsFor}
+use Rattle.amqp_to_value.specs.PendingDescriptors.{saved_of, described_by, awaiting_value}
+use Rattle.amqp_to_value.specs.ImageOf.{IsImageOf, Represents}
 use Rattle.amqp_to_value.specs.Opened.{AreOpened}
 use Rattle.amqp_to_value.specs.PendingMarker.{meant}
 use Rattle.amqp_to_value.specs.HeldImages.{HoldsImages, is_single, compound_tree}
@@ -28,7 +28,7 @@ IsFresh s = (s.pending ≡ pending.Marker marker.Other) × (s.descriptors.next �
 
 -- The intended tree: under the pending marker, inside the pending descriptors.
 abbrev pub meant_by : Serializer → Option Tree → Option Tree
-meant_by s t = described_by (standing s.descriptors) (meant s.pending t)
+meant_by s t = described_by (awaiting_value s.descriptors) (meant s.pending t)
 
 -- All the descriptors on the stack.
 abbrev pub all_held : Serializer → List Descriptor
@@ -49,7 +49,7 @@ Leaves others own (Ok v) s = IsKept others s × (length (others ++ own) ≤ s.de
 Leaves others own (Err e) s = IsKept others s × IsLeft own s
 
 abbrev pub ValuePermits : Serializer → Option Tree → Result Value Error → Serializer → Type 0
-ValuePermits s t r after = IsImageOf (meant_by s t) r × Leaves s.descriptors.kept (standing s.descriptors) r after
+ValuePermits s t r after = IsImageOf (meant_by s t) r × Leaves s.descriptors.kept (awaiting_value s.descriptors) r after
 
 -- An open compound that contains these parts.
 pub record HoldsParts (pending : PendingMarker) (kind : CompoundKind) (compound : CollectedParts) (ps : List (Option Tree)) : Type 0 where
@@ -58,7 +58,7 @@ pub record HoldsParts (pending : PendingMarker) (kind : CompoundKind) (compound 
   -- The same trees, after their lazy trees are read.
   pub us : Trees
   pub opened : AreOpened ts us
-  pub fed : HoldsImages compound us
+  pub accepted : HoldsImages compound us
   pub makes : (o : Option Trees) → meant pending (as_kind kind o) ≡ compound_tree compound o
 
 -- A single compound has no value and no part, or one part and its value.
@@ -66,7 +66,7 @@ abbrev pub HasValue : PendingMarker → Option Value → List (Option Tree) → 
 HasValue u None [] = Unit {0}
 HasValue u None (p ∷ ps) = ⊥
 HasValue u (Some v) [] = ⊥
-HasValue u (Some v) (p ∷ []) = StandsFor v (meant u p)
+HasValue u (Some v) (p ∷ []) = Represents v (meant u p)
 HasValue u (Some v) (p ∷ (q ∷ ps)) = ⊥
 
 -- The compound, opened under this pending marker, can contain these parts.
@@ -76,32 +76,32 @@ HasParts u k (body.CollectedParts parts) ps = (is_single k ≡ false) × HoldsPa
 
 -- The descriptors of the compound are saved.
 abbrev pub IsSaved : Serializer → Serializer → Type 0
-IsSaved start s = IsKept start.descriptors.kept s × IsLeft (standing start.descriptors) s
+IsSaved start s = IsKept start.descriptors.kept s × IsLeft (awaiting_value start.descriptors) s
 
 -- The descriptors of the compound are kept while a part is serialized.
 abbrev pub IsKeeping : Serializer → Serializer → Type 0
-IsKeeping start s = IsKept (start.descriptors.kept ++ standing start.descriptors) s
+IsKeeping start s = IsKept (start.descriptors.kept ++ awaiting_value start.descriptors) s
 
 -- The same while a descriptor is serialized.
 abbrev pub IsKeepingDescriptor : Serializer → Serializer → Type 0
-IsKeepingDescriptor start s = (s.pending ≡ pending.Descriptor) × (s.descriptors.next ≡ false) × (s.descriptors.kept ≡ start.descriptors.kept ++ standing start.descriptors)
+IsKeepingDescriptor start s = (s.pending ≡ pending.Descriptor) × (s.descriptors.next ≡ false) × (s.descriptors.kept ≡ start.descriptors.kept ++ awaiting_value start.descriptors)
 
 -- Before its value, a single compound has the serializer in the state in which the compound was
 -- opened.
 abbrev pub IsReady : Serializer → Serializer → OpenBody → Type 0
-IsReady start s (body.Single u None) = (s.pending ≡ start.pending) × (s.descriptors.kept ≡ start.descriptors.kept) × (standing s.descriptors ≡ standing start.descriptors)
+IsReady start s (body.Single u None) = (s.pending ≡ start.pending) × (s.descriptors.kept ≡ start.descriptors.kept) × (awaiting_value s.descriptors ≡ awaiting_value start.descriptors)
 IsReady start s (body.Single u (Some v)) = IsKeeping start s
 IsReady start s (body.CollectedParts parts) = IsKeeping start s
 
 abbrev pub ValueHas : Serializer → CompoundKind → Serializer → OpenValue → List (Option Tree) → Type 0
-ValueHas start k s compound ps = (compound.saved ≡ saved_of start.descriptors.kept (standing start.descriptors)) × HasParts start.pending k compound.body ps × IsSaved start s
+ValueHas start k s compound ps = (compound.saved ≡ saved_of start.descriptors.kept (awaiting_value start.descriptors)) × HasParts start.pending k compound.body ps × IsSaved start s
 
 abbrev pub ValueAwaits : Serializer → CompoundKind → Serializer → OpenValue → List (Option Tree) → Type 0
-ValueAwaits start k s compound ps = (compound.saved ≡ saved_of start.descriptors.kept (standing start.descriptors)) × HasParts start.pending k compound.body ps × IsReady start s compound.body
+ValueAwaits start k s compound ps = (compound.saved ≡ saved_of start.descriptors.kept (awaiting_value start.descriptors)) × HasParts start.pending k compound.body ps × IsReady start s compound.body
 
 -- A single compound can take a descriptor.
 abbrev pub ValueAwaitsDescriptor : Serializer → Serializer → OpenValue → Type 0
-ValueAwaitsDescriptor start s compound = (compound.saved ≡ saved_of start.descriptors.kept (standing start.descriptors)) × HasParts start.pending kind.Single compound.body [] × IsKeepingDescriptor start s
+ValueAwaitsDescriptor start s compound = (compound.saved ≡ saved_of start.descriptors.kept (awaiting_value start.descriptors)) × HasParts start.pending kind.Single compound.body [] × IsKeepingDescriptor start s
 
 pub described_none : (ds : List Descriptor) → described_by ds None ≡ None
 described_none [] = refl
@@ -115,4 +115,4 @@ meant_none pending.Nothing = refl
 -- If there is no tree, there is no value.
 pub no_value_of_none : (s : Serializer) (v : Value) (after : Serializer) → ValuePermits s None (Ok v) after → ⊥
 no_value_of_none s v after h =
-    let none : meant_by s None ≡ None = ap (described_by (standing s.descriptors)) (meant_none s.pending) ∙ described_none (standing s.descriptors) in subst (StandsFor v) none h.0
+    let none : meant_by s None ≡ None = ap (described_by (awaiting_value s.descriptors)) (meant_none s.pending) ∙ described_none (awaiting_value s.descriptors) in subst (Represents v) none h.0

@@ -4,7 +4,7 @@ ghost use Rattle.std.specs.Prelude.{◌≡◌, ℕ, ◌+◌, ◌≤◌, ◌++◌
 ghost use Rattle.amqp_ser.specs.Carried.{descriptor_content};
 ghost use Rattle.amqp_ser.specs.Tree.{Descriptor as Content, Tree};
 ghost use Rattle.amqp_value.specs.TreeOf.{tree_of};
-ghost use Rattle.amqp_to_value.specs.PendingDescriptors.{DescriptorsState, saved_of, descriptors_of, under_descriptors, standing};
+ghost use Rattle.amqp_to_value.specs.PendingDescriptors.{DescriptorsState, saved_of, descriptors_of, under_descriptors, awaiting_value};
 
 use amqp_data::{Described, Descriptor, Error};
 use amqp_value::Value;
@@ -64,9 +64,9 @@ impl PendingDescriptors {
     /// Returns the range of the next value's descriptors. Drops those left over from failed values.
     #[inline(always)]
     pub fn save(&mut self) -> Saved
-        ensures saved { result ≡ saved_of self.old.kept (standing self.old) }
+        ensures saved { result ≡ saved_of self.old.kept (awaiting_value self.old) }
         ensures kept { self.new.kept ≡ self.old.kept }
-        ensures later { self.new.later ≡ standing self.old }
+        ensures later { self.new.later ≡ awaiting_value self.old }
         ensures none { self.new.next ≡ false }
     {
         if !self.next {
@@ -157,8 +157,8 @@ impl PendingDescriptors {
     pub fn wrap(&mut self, value: Value) -> Value
         ensures kept { self.new.kept ≡ self.old.kept }
         ensures none { self.new.next ≡ false }
-        ensures room { length (self.old.kept ++ standing self.old) ≤ self.new.room }
-        ensures described { tree_of result ≡ under_descriptors (standing self.old) (tree_of value) }
+        ensures room { length (self.old.kept ++ awaiting_value self.old) ≤ self.new.room }
+        ensures described { tree_of result ≡ under_descriptors (awaiting_value self.old) (tree_of value) }
     {
         if !self.next {
             return value;

@@ -2,14 +2,14 @@
 
 ghost use Rattle.std.specs.Prelude.{◌≡◌, ◌++◌, [], Option, Result, Err, IfErr, IsErr};
 ghost use Rattle.amqp_ser.specs.Tree.{Tree};
-ghost use Rattle.amqp_to_value.specs.PendingDescriptors.{standing};
+ghost use Rattle.amqp_to_value.specs.PendingDescriptors.{awaiting_value};
 ghost use Rattle.amqp_to_value.specs.ValueSerializer.{IsFresh, ValuePermits};
 ghost use Rattle.amqp_to_value.specs.ImageOf.{IsImageOf};
 ghost use Rattle.amqp_to_value.specs.PendingMarker.{meant};
 
 use crate::next_capacity::NextCapacity;
 use crate::open_value::{OpenBody, OpenValue, set_first};
-use crate::parts::let_go;
+use crate::parts::drop_value;
 use crate::pending_descriptors::PendingDescriptors;
 use crate::pending_marker::PendingMarker;
 use crate::scalars::{descriptor_from, marked_bytes, marked_fixed, marked_text};
@@ -22,7 +22,7 @@ use std::mem;
 /// A serializer that returns untyped values.
 ///
 /// After each call, failed or not, no marker or descriptor is pending. A binary under the marker
-/// `LAZY_VALUE` must be one encoded value; it becomes the value that its bytes spell.
+/// `LAZY_VALUE` must be one encoded value; it becomes the value that its bytes encode.
 ///
 /// # Memory
 /// Between calls, keeps the capacity that described values needed and the descriptors of one failed
@@ -67,7 +67,7 @@ impl Serializer {
     fn finish(&mut self, answer: Result<Value, Error>) -> Result<Value, Error>
         ensures { (start : Serializer) (t : Option Tree) →
             self.old.descriptors.kept ≡ start.descriptors.kept →
-            standing self.old.descriptors ≡ standing start.descriptors →
+            awaiting_value self.old.descriptors ≡ awaiting_value start.descriptors →
             self.old.pending ≡ PendingMarker.Marker Marker.Other →
             IsImageOf (meant start.pending t) answer →
             ValuePermits start t result self.new }
@@ -140,7 +140,7 @@ impl amqp_ser::Serializer for Serializer {
         ensures opened { ValueHas self.old kind self.new result [] }
         // Descriptors left over from failed values are dropped.
         ensures compound { all_held self.new
-            ≡ self.old.descriptors.kept ++ standing self.old.descriptors }
+            ≡ self.old.descriptors.kept ++ awaiting_value self.old.descriptors }
     {
         let pending = self.take_pending();
         let saved = self.descriptors.save();
@@ -188,7 +188,7 @@ impl amqp_ser::Serializer for Serializer {
                     Ok(())
                 }
                 Some(_) => {
-                    let_go(value);
+                    drop_value(value);
                     Err(Error::InvalidValue)
                 }
             },

@@ -8,10 +8,10 @@ use Rattle.std.specs.Map.{keys_of}
 use Rattle.amqp_data.specs.Pairs.{insert_pair, insert_pairs, LacksKey, AreDistinct}
 use Rattle.amqp_value.specs.declared.value.Value.{Value}
 use Rattle.amqp_data.proofs.Searches.{AllFail, fail_by_position}
-use Rattle.amqp_value.specs.Places.{equal, merged, place}
+use Rattle.amqp_value.specs.KeyPositions.{equal, merged, key_position}
 use Rattle.amqp_value.proofs.MapBuilderLemmas.{one_more}
-use Rattle.amqp_value.proofs.PlaceLemmas.{merged-push, new-last}
-use Rattle.amqp_value.proofs.ValueKeys.{AllMiss, Misses, all_miss-nothing, equal-symmetric, misses-place, misses-push}
+use Rattle.amqp_value.proofs.KeyPositionLemmas.{merged-push, new-last}
+use Rattle.amqp_value.proofs.ValueKeys.{AllMiss, Misses, all_miss-nothing, equal-symmetric, misses-key_position, misses-push}
 
 misses_step : (k : Value) (e : Value × Value) (es : List (Value × Value)) (b c : Bool) → equal k e.0 ≡ b → (c ≡ false → Misses k es) → (b || c) ≡ false → Misses k (e ∷ es)
 misses_step k e es true c is rest h = absurd (true≢false h)
@@ -27,7 +27,7 @@ pub merged-new : (es : List (Value × Value)) (i : ℕ) (e : Value × Value) →
     → merged equal (take i es) [] ≡ take i es → merged equal (take (i + 1) es) [] ≡ take (i + 1) es
 merged-new es i e below is new h =
     let before = take i es in
-    rw (one_more es i e below is) (merged-push equal before e [] ∙ ap (λ done. insert_pair equal done e.0 e.1) h ∙ new-last equal e.0 e.1 before (misses-place e.0 before (misses-from_any e.0 before new)))
+    rw (one_more es i e below is) (merged-push equal before e [] ∙ ap (λ done. insert_pair equal done e.0 e.1) h ∙ new-last equal e.0 e.1 before (misses-key_position e.0 before (misses-from_any e.0 before new)))
 
 all_miss-distinct : (es : List (Value × Value)) (e : Value × Value) (done : List (Value × Value)) → LacksKey equal e.0 (keys_of es) → AllMiss es done → AllMiss es (done ++ e ∷ [])
 all_miss-distinct [] e done apart h = tt
@@ -36,7 +36,7 @@ all_miss-distinct (x ∷ es) e done apart h = (misses-push x.0 done e h.0 (equal
 merged_onto : (es done : List (Value × Value)) → AreDistinct equal (keys_of es) → AllMiss es done → merged equal es done ≡ done ++ es
 merged_onto [] done distinct h = sym (append-nil done)
 merged_onto (e ∷ es) done distinct h =
-    ap (merged equal es) (new-last equal e.0 e.1 done (misses-place e.0 done h.0))
+    ap (merged equal es) (new-last equal e.0 e.1 done (misses-key_position e.0 done h.0))
     ∙ merged_onto es (done ++ e ∷ []) distinct.1 (all_miss-distinct es e done distinct.0 h.1)
     ∙ append_assoc done (e ∷ []) es
 
@@ -80,21 +80,21 @@ merged-split n es seen first rest same distinct head tail =
     ∙ ap (λ xs. merged equal xs []) (split_at n es)
 
 module _ {K V : Type 0} (eq : K → K → Bool) (k : K) where
-  place_none : (es : List (K × V)) → AllFail (λ e. eq k e.0) es → place eq k es ≡ None
+  place_none : (es : List (K × V)) → AllFail (λ e. eq k e.0) es → key_position eq k es ≡ None
   place_none [] fails = refl
   place_none (e ∷ es) fails = rw fails.0 (ap (option_map suc) (place_none es fails.1))
 
   place_first : (es : List (K × V)) (i : ℕ) (d : K × V) → i < length es → eq k (get_or es i d).0 ≡ true
-      → ((j : ℕ) → j < i → eq k (get_or es j d).0 ≡ false) → place eq k es ≡ Some i
+      → ((j : ℕ) → j < i → eq k (get_or es j d).0 ≡ false) → key_position eq k es ≡ Some i
   place_first [] i d within is before = absurd (omega (arith, within))
   place_first (e ∷ es) zero d within is before = rw is
   place_first (e ∷ es) (suc i) d within is before =
       rw (before 0 (omega arith)) (ap (option_map suc) (place_first es i d (omega (arith, within)) is (λ j below. before (suc j) (omega (arith, below)))))
 
   -- The position that a search gives is the place of the key.
-  pub place-position : (es : List (K × V)) (o : Option ℕ) → o ≡ position (λ e. eq k e.0) es → o ≡ place eq k es
-  place-position [] o is = is
-  place-position (e ∷ es) None is = sym (place_none (e ∷ es) (fail_by_position (λ x. eq k x.0) (e ∷ es) (sym is)))
-  place-position (e ∷ es) (Some i) is =
+  pub key_position-position : (es : List (K × V)) (o : Option ℕ) → o ≡ position (λ e. eq k e.0) es → o ≡ key_position eq k es
+  key_position-position [] o is = is
+  key_position-position (e ∷ es) None is = sym (place_none (e ∷ es) (fail_by_position (λ x. eq k x.0) (e ∷ es) (sym is)))
+  key_position-position (e ∷ es) (Some i) is =
       let first = position-Some (λ x. eq k x.0) (e ∷ es) i e (sym is) in
       sym (place_first (e ∷ es) i e first.0 first.1 first.2)

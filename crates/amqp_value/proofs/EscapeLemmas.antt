@@ -63,20 +63,20 @@ pub run_grows : (bs : List ℕ) (from to end : ℕ) → from ≤ to → to ≤ e
 run_grows bs from to end low high before plain =
     let whole : end ≡ to + (end - to) = omega arith in
     let rest : to - from + (end - to) ≡ end - from = omega arith in
-    let place : from + (to - from) ≡ to = omega arith in
+    let key_position : from + (to - from) ≡ to = omega arith in
     ap (λ (n : ℕ). flat_map byte_escaped (take n bs)) whole ∙ ap (flat_map byte_escaped) (take-add to (end - to) bs)
     ∙ flat_map-append byte_escaped (take to bs) (take (end - to) (drop to bs))
     ∙ ap (λ (xs : List ℕ). xs ++ flat_map byte_escaped (take (end - to) (drop to bs))) before
     ∙ append_assoc (flat_map byte_escaped (take from bs)) (take (to - from) (drop from bs)) (flat_map byte_escaped (take (end - to) (drop to bs)))
     ∙ ap (λ (xs : List ℕ). flat_map byte_escaped (take from bs) ++ (take (to - from) (drop from bs) ++ xs)) plain
-    ∙ ap (λ (xs : List ℕ). flat_map byte_escaped (take from bs) ++ (take (to - from) (drop from bs) ++ take (end - to) xs)) (ap (λ (n : ℕ). drop n bs) (sym place) ∙ sym (drop-drop (to - from) from bs))
+    ∙ ap (λ (xs : List ℕ). flat_map byte_escaped (take from bs) ++ (take (to - from) (drop from bs) ++ take (end - to) xs)) (ap (λ (n : ℕ). drop n bs) (sym key_position) ∙ sym (drop-drop (to - from) from bs))
     ∙ ap (λ (xs : List ℕ). flat_map byte_escaped (take from bs) ++ xs) (sym (take-add (to - from) (end - to) (drop from bs)))
     ∙ ap (λ (n : ℕ). flat_map byte_escaped (take from bs) ++ take n (drop from bs)) rest
 
 -- a run of one byte without an escape
-pub one_plain : (bs : List ℕ) (i : ℕ) → i < length bs → byte_escaped (get_or bs i 0) ≡ get_or bs i 0 ∷ []
+pub one_unescaped : (bs : List ℕ) (i : ℕ) → i < length bs → byte_escaped (get_or bs i 0) ≡ get_or bs i 0 ∷ []
     → flat_map byte_escaped (take (i + 1 - i) (drop i bs)) ≡ take (i + 1 - i) (drop i bs)
-one_plain bs i inside plain =
+one_unescaped bs i inside plain =
     let one : 1 ≡ i + 1 - i = omega arith in
     let first : take 1 (drop i bs) ≡ get_or bs i 0 ∷ [] = ap (take 1) (drop_more bs i 0 inside) in
     let fact : flat_map byte_escaped (take 1 (drop i bs)) ≡ take 1 (drop i bs) =
@@ -91,7 +91,7 @@ run_starts bs i inside plain =
     let start : flat_map byte_escaped (take i bs) ≡ flat_map byte_escaped (take i bs) ++ take 0 (drop i bs) = sym (append-nil (flat_map byte_escaped (take i bs))) in
     run_grows bs i i (i + 1) (omega arith) (omega arith)
     (subst (λ (n : ℕ). flat_map byte_escaped (take i bs) ≡ flat_map byte_escaped (take i bs) ++ take n (drop i bs)) none start)
-    (one_plain bs i inside plain)
+    (one_unescaped bs i inside plain)
 
 -- what is written after a run
 pub run_text : (bs text piece : List ℕ) (from to : ℕ) → bs ≡ text → piece ≡ take (to - from) (drop from text)

@@ -20,8 +20,8 @@ use Rattle.amqp_value.proofs.SameLemmas.{same-equal, same-itself}
 use Rattle.amqp_value.proofs.Sameness.{equal-is_same}
 use Rattle.amqp_value.proofs.TreeLemmas.{pairs_trees-insert}
 use Rattle.amqp_value.specs.MapBuilder.{insert_all}
-use Rattle.amqp_value.specs.Places.{equal, compare_at, place, merged, Indexes}
-use Rattle.amqp_value.proofs.PlaceLemmas.{place-present, length-present, place-new, new-last}
+use Rattle.amqp_value.specs.KeyPositions.{equal, compare_at, key_position, merged, Indexes}
+use Rattle.amqp_value.proofs.KeyPositionLemmas.{key_position-present, length-present, key_position-new, new-last}
 
 turned : (t u : Tree) (b c : Bool) → same_tree t u ≡ b → same_tree u t ≡ c → b ≡ c
 turned t u true true is other = refl
@@ -48,21 +48,21 @@ merged-distinct (e ∷ es) done h = merged-distinct es (insert_pair equal done e
 
 -- Looking up a present key finds its position.
 pub find-present : (index : BTreeMap (Bor Value) ℕ) (key : Bor Value) (i : ℕ) → get compare_at index key ≡ Some i
-    → (done : List (Value × Value)) → Indexes done index → (Some i ≡ place equal key.now done) × ((v : Value) → Indexes (insert_pair equal done key.now v) index)
+    → (done : List (Value × Value)) → Indexes done index → (Some i ≡ key_position equal key.now done) × ((v : Value) → Indexes (insert_pair equal done key.now v) index)
 find-present index key i has done h =
-    let p : place equal key.now done ≡ Some i = sym (h.0 key) ∙ has in
-    (sym p, λ v. (λ q. h.0 q ∙ sym (place-present equal key.now v done i q.now p), h.1 ∙ sym (length-present equal key.now v done i p)))
+    let p : key_position equal key.now done ≡ Some i = sym (h.0 key) ∙ has in
+    (sym p, λ v. (λ q. h.0 q ∙ sym (key_position-present equal key.now v done i q.now p), h.1 ∙ sym (length-present equal key.now v done i p)))
 
 -- Adding a new key to the index keeps the positions right.
 pub find-new : (index new : BTreeMap (Bor Value) ℕ) (key : Bor Value) → get compare_at index key ≡ None
     → ((q : Bor Value) → get compare_at new q ≡ cond (is_eq (compare_at key q)) (Some (btree_map_len index)) (get compare_at index q))
     → btree_map_len new ≡ btree_map_len index + 1
-    → (done : List (Value × Value)) → Indexes done index → (None ≡ place equal key.now done) × ((v : Value) → Indexes (insert_pair equal done key.now v) new)
+    → (done : List (Value × Value)) → Indexes done index → (None ≡ key_position equal key.now done) × ((v : Value) → Indexes (insert_pair equal done key.now v) new)
 find-new index new key none up longer done h =
-    let p : place equal key.now done ≡ None = sym (h.0 key) ∙ none in (
+    let p : key_position equal key.now done ≡ None = sym (h.0 key) ∙ none in (
       sym p,
       λ v. (
-        λ q. up q ∙ (λ i. cond (sym (laws.matches_eq-law key.now q.now) i) (Some (h.1 i)) (h.0 q i)) ∙ sym (place-new equal equal-symmetric equal-congruent key.now v done q.now p),
+        λ q. up q ∙ (λ i. cond (sym (laws.matches_eq-law key.now q.now) i) (Some (h.1 i)) (h.0 q i)) ∙ sym (key_position-new equal equal-symmetric equal-congruent key.now v done q.now p),
         longer ∙ ap (λ n. n + 1) h.1 ∙ sym (ap length (new-last equal key.now v done p) ∙ length-append done ((key.now, v) ∷ [])),
       ),
     )
@@ -79,9 +79,9 @@ abbrev pub Misses : Value → List (Value × Value) → Type 0
 Misses k [] = Unit {0}
 Misses k (e ∷ es) = (equal k e.0 ≡ false) × Misses k es
 
-pub misses-place : (k : Value) (es : List (Value × Value)) → Misses k es → place equal k es ≡ None
-misses-place k [] h = refl
-misses-place k (e ∷ es) h = rw (h.0, misses-place k es h.1) refl
+pub misses-key_position : (k : Value) (es : List (Value × Value)) → Misses k es → key_position equal k es ≡ None
+misses-key_position k [] h = refl
+misses-key_position k (e ∷ es) h = rw (h.0, misses-key_position k es h.1) refl
 
 pub misses-push : (k : Value) (es : List (Value × Value)) (e : Value × Value) → Misses k es → equal k e.0 ≡ false → Misses k (es ++ e ∷ [])
 misses-push k [] e h other = (other, tt)
@@ -104,7 +104,7 @@ merged-after : (es done : List (Value × Value)) → IsStrictlySortedBy key_orde
 unfolding IsStrictlySortedBy
 merged-after [] done sorted h = sym (append-nil done)
 merged-after (e ∷ es) done sorted h =
-    ap (merged equal es) (new-last equal e.0 e.1 done (misses-place e.0 done h.0))
+    ap (merged equal es) (new-last equal e.0 e.1 done (misses-key_position e.0 done h.0))
     ∙ merged-after es (done ++ e ∷ []) sorted.1 (all_miss-push es e done sorted.0 h.1)
     ∙ append_assoc done (e ∷ []) es
 

@@ -10,7 +10,7 @@ use Rattle.amqp_data.specs.declared.error.Error.{Error}
 use Rattle.amqp_data.specs.declared.error.Error.TheVariants.{OutOfMemory}
 use Rattle.amqp_value.specs.Contents.{map_in}
 use Rattle.amqp_value.specs.Converts.{FirstFits, IsMapOf, StopsAt, ConvertsAll, PairConverts, PairFits, PairFails, PairGives, PairsGive}
-use Rattle.amqp_value.specs.Places.{equal, merged}
+use Rattle.amqp_value.specs.KeyPositions.{equal, merged}
 use Rattle.amqp_value.specs.declared.try_from.ConvertFault.{ConvertFault}
 use Rattle.amqp_value.specs.declared.try_from.ConvertFault.TheVariants.{Unfit, Memory}
 use Rattle.amqp_value.specs.declared.value.Value.{Value}

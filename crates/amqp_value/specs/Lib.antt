@@ -13,12 +13,12 @@ pub mod ComesBack
 pub mod Conversions
 pub mod Sound
 pub mod MapBuilder
-pub mod Places
+pub mod KeyPositions
 pub mod ShortKeys
 pub mod Accessors
 pub mod ValueLends
 pub mod ValueKind
-pub mod Builds
+pub mod Literals
 pub mod FaultError
 pub mod EscapedBytes
 pub mod Measured

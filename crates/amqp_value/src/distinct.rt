@@ -3,9 +3,9 @@
 ghost use Rattle.std.specs.Prelude.{◌≡◌, ◌≤◌, [], IfOk, OnOk, length, position, take};
 ghost use Rattle.std.specs.Bool.{OnTrue};
 ghost use Rattle.std.specs.List.{list_any};
-ghost use Rattle.amqp_value.specs.Places.{equal, merged};
+ghost use Rattle.amqp_value.specs.KeyPositions.{equal, merged};
 
-use crate::places::{ascends, places_of, put, rebuild};
+use crate::key_positions::{ascends, key_positions_of, put, rebuild};
 use crate::short_keys::have_short_keys;
 use crate::value::Value;
 use amqp_data::merge_repeated_keys;
@@ -35,7 +35,7 @@ pub fn once_each(
     once_each_by_order(alloc, pairs)
 }
 
-// Does the same for entries whose keys were distinct before they were converted, so that a repeated
+// Like the function above, for entries whose keys were distinct before they were converted, so that a repeated
 // key is rare. Long keys are compared each with each one before it.
 pub fn once_each_converted(
     alloc: Global,
@@ -49,18 +49,18 @@ pub fn once_each_converted(
     once_each_by_pairs(pairs)
 }
 
-// Does the same by the order of the keys.
+// Like the function above, by the order of the keys.
 fn once_each_by_order(
     alloc: Global,
     pairs: Vec<(Value, Value)>,
 ) -> Result<Vec<(Value, Value)>, AllocError>
     ensures { IfOk result (λ entries. entries.items ≡ merged equal pairs.items []) }
 {
-    let places = places_of(alloc, &pairs)?;
-    rebuild(alloc, pairs, places)
+    let key_positions = key_positions_of(alloc, &pairs)?;
+    rebuild(alloc, pairs, key_positions)
 }
 
-// Does the same by the hashes of the keys, and by their order if many have hashes in the same bucket.
+// Like the function above, by the hashes of the keys, and by their order if many have hashes in the same bucket.
 fn once_each_by_hashes(
     alloc: Global,
     pairs: Vec<(Value, Value)>,
@@ -85,7 +85,7 @@ fn merge_repeated(alloc: Global, pairs: &mut Vec<(Value, Value)>) -> Result<bool
     merge_repeated_keys(alloc, pairs)
 }
 
-// Does the same as `once_each` by comparing each key with each one before it.
+// Like `once_each`, by comparing each key with each one before it.
 fn once_each_by_pairs(pairs: Vec<(Value, Value)>) -> Result<Vec<(Value, Value)>, AllocError>
     ensures { IfOk result (λ entries. entries.items ≡ merged equal pairs.items []) }
 {

@@ -6,14 +6,14 @@
 #![tactic(auto)]
 
 mod accessors;
-mod build;
 mod distinct;
 mod escape;
 mod format_code;
 mod from;
+mod key_positions;
 pub mod laws;
+mod literal;
 mod map_builder;
-mod places;
 mod serialize;
 mod short_keys;
 mod show;
@@ -22,7 +22,7 @@ mod value;
 mod whole;
 
 pub use accessors::ValueKind;
-pub use build::{BuildList, BuildMap, IntoValue};
+pub use literal::{IntoValue, ListLiteral, MapLiteral};
 pub use map_builder::MapBuilder;
 pub use short_keys::is_short_key;
 pub use try_from::ConvertFault;

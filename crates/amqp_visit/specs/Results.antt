@@ -5,7 +5,7 @@ use Rattle.amqp_data.specs.declared.error.Error.TheVariants as error
 use Rattle.amqp_ser.specs.Tree.{Tree}
 use Rattle.amqp_de.specs.Answers as read
 use Rattle.amqp_de.specs.Results.{IsMemory, kind_of}
-use Rattle.amqp_de.specs.Spelled.{IsOfReading, error_of}
+use Rattle.amqp_de.specs.FromBytes.{IsOfReading, error_of}
 use Rattle.amqp_de.specs.declared.fault.Fault.{Fault}
 
 -- The error is out of memory.
@@ -32,9 +32,9 @@ abbrev pub Restores : {T : Type 0} → (T → Tree) → (T → Type 0) → (T �
 Restores image P S = read.Restores image P S IsOutOfMemory
 
 -- An invalid value, unless the value has a kind that is accepted.
-abbrev pub InvalidUnless : {T : Type 0} → Type 0 → Result T Error → Type 0
-InvalidUnless Accepted (Ok x) = Unit {0}
-InvalidUnless Accepted (Err e) = ¬ Accepted → e ≡ error.InvalidValue
+abbrev pub IsInvalidUnless : {T : Type 0} → Type 0 → Result T Error → Type 0
+IsInvalidUnless Accepted (Ok x) = Unit {0}
+IsInvalidUnless Accepted (Err e) = ¬ Accepted → e ≡ error.InvalidValue
 
 -- The fault of an error. All errors but those of a reader and of malformed bytes stay the same.
 abbrev pub IsFaultOf : Error → Fault → Type 0

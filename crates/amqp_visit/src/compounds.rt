@@ -3,8 +3,8 @@
 ghost use Rattle.amqp_ser.specs.Tree.{null};
 ghost use Rattle.amqp_visit.specs.Accepted.{IsArray, IsDescribed, IsList, IsMap, IsStruct};
 ghost use Rattle.amqp_visit.specs.Events.{Visits, ByArray, ByDescribed, ByList, ByMap, ByStruct};
-ghost use Rattle.amqp_visit.specs.Events.{any_event, is_described_name, plain_event};
-ghost use Rattle.amqp_visit.specs.Results.{InvalidUnless};
+ghost use Rattle.amqp_visit.specs.Events.{any_event, is_described_name, unchanged_event};
+ghost use Rattle.amqp_visit.specs.Results.{IsInvalidUnless};
 ghost use Rattle.amqp_visit.specs.Trees.{value_tree};
 
 use crate::access::{MapAccess, SeqAccess};
@@ -26,7 +26,7 @@ impl Deserializer {
     pub fn deserialize_seq<V: Visitor>(self, visitor: V) -> Result<V::Value, Error>
         ensures visits { Visits (ByList (V.gives visitor)) (ByList (V.represents visitor))
             V.same (value_tree self) result }
-        ensures invalid { InvalidUnless (IsList (value_tree self)) result }
+        ensures invalid { IsInvalidUnless (IsList (value_tree self)) result }
     {
         let Deserializer { alloc, value } = self;
         match value {
@@ -45,7 +45,7 @@ impl Deserializer {
     pub fn deserialize_tuple<V: Visitor>(self, visitor: V) -> Result<V::Value, Error>
         ensures visits { Visits (ByList (V.gives visitor)) (ByList (V.represents visitor))
             V.same (value_tree self) result }
-        ensures invalid { InvalidUnless (IsList (value_tree self)) result }
+        ensures invalid { IsInvalidUnless (IsList (value_tree self)) result }
     {
         self.deserialize_seq(visitor)
     }
@@ -61,7 +61,7 @@ impl Deserializer {
     pub fn deserialize_array<V: Visitor>(self, visitor: V) -> Result<V::Value, Error>
         ensures visits { Visits (ByArray (V.gives visitor)) (ByArray (V.represents visitor))
             V.same (value_tree self) result }
-        ensures invalid { InvalidUnless (IsArray (value_tree self)) result }
+        ensures invalid { IsInvalidUnless (IsArray (value_tree self)) result }
     {
         let Deserializer { alloc, value } = self;
         match value {
@@ -82,7 +82,7 @@ impl Deserializer {
     pub fn deserialize_map<V: Visitor>(self, visitor: V) -> Result<V::Value, Error>
         ensures visits { Visits (ByMap (V.gives visitor)) (ByMap (V.represents visitor))
             V.same (value_tree self) result }
-        ensures invalid { InvalidUnless (IsMap (value_tree self)) result }
+        ensures invalid { IsInvalidUnless (IsMap (value_tree self)) result }
     {
         let Deserializer { alloc, value } = self;
         match value {
@@ -102,7 +102,7 @@ impl Deserializer {
     pub fn deserialize_described<V: Visitor>(self, visitor: V) -> Result<V::Value, Error>
         ensures visits { Visits (ByDescribed (V.gives visitor)) (ByDescribed (V.represents visitor))
             V.same (value_tree self) result }
-        ensures invalid { InvalidUnless (IsDescribed (value_tree self)) result }
+        ensures invalid { IsInvalidUnless (IsDescribed (value_tree self)) result }
     {
         let Deserializer { alloc, value } = self;
         match value {
@@ -129,7 +129,7 @@ impl Deserializer {
         ensures visits { Visits (ByStruct (V.gives visitor) (is_described_name name.now))
             (ByStruct (V.represents visitor) (is_described_name name.now))
             V.same (value_tree self) result }
-        ensures invalid { InvalidUnless
+        ensures invalid { IsInvalidUnless
             (IsStruct (is_described_name name.now) (value_tree self)) result }
     {
         if is_described_name(name) {
@@ -154,7 +154,7 @@ impl Deserializer {
         ensures visits { Visits (ByStruct (V.gives visitor) (is_described_name name.now))
             (ByStruct (V.represents visitor) (is_described_name name.now))
             V.same (value_tree self) result }
-        ensures invalid { InvalidUnless
+        ensures invalid { IsInvalidUnless
             (IsStruct (is_described_name name.now) (value_tree self)) result }
     {
         self.deserialize_struct(name, visitor)
@@ -169,7 +169,7 @@ impl Deserializer {
     /// For the empty list, calls `visit_unit()`.
     pub fn deserialize_ignored_any<V: Visitor>(self, visitor: V) -> Result<V::Value, Error>
         ensures { Visits (V.gives visitor) (V.represents visitor) V.same
-            (plain_event null) result }
+            (unchanged_event null) result }
     {
         visitor.visit_unit()
     }

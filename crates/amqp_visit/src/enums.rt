@@ -5,7 +5,7 @@ ghost use Rattle.amqp_ser.specs.Marked.{is_descriptor_name, is_value_name};
 ghost use Rattle.amqp_visit.specs.Accepted.{IsDescriptor, IsIdentifier};
 ghost use Rattle.amqp_visit.specs.Events.{Visits, ByDescriptor, ByEnum, ByFormat, ByIdentifier};
 ghost use Rattle.amqp_visit.specs.Events.{ByVariant, is_array_name, is_index};
-ghost use Rattle.amqp_visit.specs.Results.{InvalidUnless};
+ghost use Rattle.amqp_visit.specs.Results.{IsInvalidUnless};
 ghost use Rattle.amqp_visit.specs.Trees.{value_tree};
 
 use crate::access::{EnumAccess, MapAccess, SeqAccess};
@@ -29,7 +29,7 @@ impl Deserializer {
         ensures visits { Visits (ByIdentifier (V.gives visitor))
             (ByIdentifier (V.represents visitor))
             V.same (value_tree self) result }
-        ensures invalid { InvalidUnless (IsIdentifier (value_tree self)) result }
+        ensures invalid { IsInvalidUnless (IsIdentifier (value_tree self)) result }
     {
         match self.value {
             Value::Uint(value) => visitor.visit_u32(value),
@@ -51,7 +51,7 @@ impl Deserializer {
         ensures visits { Visits (ByDescriptor (V.gives visitor))
             (ByDescriptor (V.represents visitor))
             V.same (value_tree self) result }
-        ensures invalid { InvalidUnless (IsDescriptor (value_tree self)) result }
+        ensures invalid { IsInvalidUnless (IsDescriptor (value_tree self)) result }
     {
         match self.value {
             Value::Ulong(value) => visitor.visit_u64(value),

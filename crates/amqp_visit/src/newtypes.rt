@@ -2,7 +2,7 @@
 
 ghost use Rattle.amqp_visit.specs.Accepted.{IsMarked};
 ghost use Rattle.amqp_visit.specs.Events.{Visits, ByMarker, ByWritten, read_marker};
-ghost use Rattle.amqp_visit.specs.Results.{InvalidUnless};
+ghost use Rattle.amqp_visit.specs.Results.{IsInvalidUnless};
 ghost use Rattle.amqp_visit.specs.Trees.{value_tree};
 
 use crate::deserializer::Deserializer;
@@ -52,7 +52,7 @@ impl Deserializer {
         ensures visits { Visits (ByMarker (V.gives visitor) marker)
             (ByMarker (V.represents visitor) marker)
             V.same (value_tree self) result }
-        ensures invalid { InvalidUnless (IsMarked marker (value_tree self)) result }
+        ensures invalid { IsInvalidUnless (IsMarked marker (value_tree self)) result }
     {
         match marker {
             Marker::Transparent | Marker::Other => visitor.visit_newtype_struct(self),
@@ -103,7 +103,7 @@ impl Deserializer {
         ensures visits { Visits (ByMarker (V.gives visitor) (read_marker name.now))
             (ByMarker (V.represents visitor) (read_marker name.now))
             V.same (value_tree self) result }
-        ensures invalid { InvalidUnless (IsMarked (read_marker name.now) (value_tree self)) result }
+        ensures invalid { IsInvalidUnless (IsMarked (read_marker name.now) (value_tree self)) result }
     {
         self.deserialize_marked(marker_read(name), visitor)
     }

@@ -49,38 +49,38 @@ length_append : (a b : List ℕ) → length (a ++ b) ≡ length a + length b
 length_append [] b = sym (zero-add (length b))
 length_append (x ∷ a) b = ap suc (length_append a b) ∙ sym (suc-add (length a) (length b))
 
--- The bytes of the first buffer, and then others. A buffer that is spoiled stays so.
-abbrev pub Longer : Appender → Appender → Type 0
-Longer a b = Extends a.out.items b.out.items × (b.spoiled ≡ false → a.spoiled ≡ false)
+-- The bytes of the first buffer, and then others. A buffer that is poisoned stays so.
+abbrev pub IsLonger : Appender → Appender → Type 0
+IsLonger a b = Extends a.out.items b.out.items × (b.poisoned ≡ false → a.poisoned ≡ false)
 
--- The bytes were appended, unless the buffer is spoiled, and a number can count all.
+-- The bytes were appended, unless the buffer is poisoned, and a number can count all.
 pub record Appends (a : Appender) (bs : List ℕ) (b : Appender) : Type 0 where
-  pub longer : Longer a b
-  pub out : b.spoiled ≡ false → b.out.items ≡ a.out.items ++ bs
+  pub longer : IsLonger a b
+  pub out : b.poisoned ≡ false → b.out.items ≡ a.out.items ++ bs
   pub few : length b.out.items ≤ 18446744073709551615
 
 -- A compound was opened with its hint, and these bytes were appended since.
 pub record Inside (a : Appender) (e : Bool) (k : HeaderKind) (o : Opened) (b : Appender) (body : List ℕ) : Type 0 where
-  pub longer : Longer a b
-  pub out : b.spoiled ≡ false → b.out.items ≡ (a.out.items ++ header e k o.count o.at) ++ body
-  pub start : b.spoiled ≡ false → o.start ≡ length (a.out.items ++ header e k o.count o.at)
+  pub longer : IsLonger a b
+  pub out : b.poisoned ≡ false → b.out.items ≡ (a.out.items ++ header e k o.count o.at) ++ body
+  pub start : b.poisoned ≡ false → o.start ≡ length (a.out.items ++ header e k o.count o.at)
 
-abbrev pub OutMarks : Appender → Mark → Type 0
-OutMarks a m = (m.len ≡ length a.out.items) × (m.spoiled ≡ a.spoiled)
+abbrev pub MarksOut : Appender → Mark → Type 0
+MarksOut a m = (m.len ≡ length a.out.items) × (m.poisoned ≡ a.poisoned)
 
-pub longer_self : (a : Appender) → Longer a a
+pub longer_self : (a : Appender) → IsLonger a a
 longer_self a = (([], sym (append_nil a.out.items)), λ s. s)
 
-pub longer_on : (a b c : Appender) → Longer a b → Longer b c → Longer a c
+pub longer_on : (a b c : Appender) → IsLonger a b → IsLonger b c → IsLonger a c
 longer_on a b c h k = ((h.0.0 ++ k.0.0, k.0.1 ∙ (ap (λ l. l ++ k.0.0) h.0.1 ∙ append_assoc a.out.items h.0.0 k.0.0)), λ s. h.1 (k.1 s))
 
-pub longer_keeps : (a b : Appender) → Longer a b → b.spoiled ≡ false → a.spoiled ≡ false
+pub longer_keeps : (a b : Appender) → IsLonger a b → b.poisoned ≡ false → a.poisoned ≡ false
 longer_keeps a b h s = h.1 s
 
-pub longer_adds : (a b : Appender) (x : List ℕ) → Appends a x b → Longer a b
+pub longer_adds : (a b : Appender) (x : List ℕ) → Appends a x b → IsLonger a b
 longer_adds a b x h = h.longer
 
-pub longer_inside : (e : Bool) (k : HeaderKind) (o : Opened) (a b : Appender) (x : List ℕ) → Inside a e k o b x → Longer a b
+pub longer_inside : (e : Bool) (k : HeaderKind) (o : Opened) (a b : Appender) (x : List ℕ) → Inside a e k o b x → IsLonger a b
 longer_inside e k o a b x h = h.longer
 
 pub appends_chain : (a b c : Appender) (x y : List ℕ) → Appends a x b → Appends b y c → Appends a (x ++ y) c
@@ -97,7 +97,7 @@ goes_inside e k o a b c x y h n = record {
   start = λ s. h.start (n.longer.1 s);
 }
 
-pub appends_bounded : (a b : Appender) (x : List ℕ) → Appends a x b → b.spoiled ≡ false → length x ≤ 18446744073709551615
+pub appends_bounded : (a b : Appender) (x : List ℕ) → Appends a x b → b.poisoned ≡ false → length x ≤ 18446744073709551615
 appends_bounded a b x h s = le_trans (subst (λ n. length x ≤ n) (sym (ap length (h.out s) ∙ length_append a.out.items x)) (le-add_left (length x) (length a.out.items))) h.few
 
 -- The number grew by this much, and is a number of 64 bits.
@@ -114,11 +114,11 @@ pub record Counted (a : Counter) (e : Bool) (k : HeaderKind) (o : Opened) (b : C
   pub start : o.start ≡ a.len
 
 -- A counter returns to any number.
-abbrev pub Any : Counter → Counter → Type 0
-Any a b = Unit {0}
+abbrev pub IsUnchecked : Counter → Counter → Type 0
+IsUnchecked a b = Unit {0}
 
-abbrev pub CountMarks : Counter → Mark → Type 0
-CountMarks a m = m.len ≡ a.len
+abbrev pub MarksCount : Counter → Mark → Type 0
+MarksCount a m = m.len ≡ a.len
 
 pub counts_chain : (a b c : Counter) (x y : List ℕ) → Counts a x b → Counts b y c → Counts a (x ++ y) c
 counts_chain a b c x y h k = record { len = k.len ∙ (ap (λ n. n + length y) h.len ∙ (add_assoc a.len (length x) (length y) ∙ ap (λ n. a.len + n) (sym (length_append x y)))); few = k.few }
@@ -129,17 +129,17 @@ counts_inside e k o a b c x y h n = record { len = n.len ∙ (ap (λ m. m + leng
 pub counts_bounded : (a b : Counter) (x : List ℕ) → Counts a x b → Unit {0} → length x ≤ 18446744073709551615
 counts_bounded a b x h s = le_trans (subst (λ n. length x ≤ n) (sym h.len) (le-add_left (length x) a.len)) h.few
 
-pub any : (a : Counter) → Any a a
+pub any : (a : Counter) → IsUnchecked a a
 any a = tt
 
-pub any_on : (a b c : Counter) → Any a b → Any b c → Any a c
+pub any_on : (a b c : Counter) → IsUnchecked a b → IsUnchecked b c → IsUnchecked a c
 any_on a b c h k = tt
 
-pub any_adds : (a b : Counter) (x : List ℕ) → Counts a x b → Any a b
+pub any_adds : (a b : Counter) (x : List ℕ) → Counts a x b → IsUnchecked a b
 any_adds a b x h = tt
 
-pub any_within : (e : Bool) (k : HeaderKind) (o : Opened) (a b : Counter) (x : List ℕ) → Counted a e k o b x → Any a b
+pub any_within : (e : Bool) (k : HeaderKind) (o : Opened) (a b : Counter) (x : List ℕ) → Counted a e k o b x → IsUnchecked a b
 any_within e k o a b x h = tt
 
-pub any_keeps : (a b : Counter) → Any a b → Unit {0} → Unit {0}
+pub any_keeps : (a b : Counter) → IsUnchecked a b → Unit {0} → Unit {0}
 any_keeps a b h s = tt

@@ -34,15 +34,15 @@ impl Counter {
 }
 
 impl Sink for Counter {
-    ghost use Rattle.amqp_wire.specs.Forms.{Counts, Counted, CountMarks, Any, counts_chain, counts_inside, counts_bounded, any, any_on, any_adds, any_within, any_keeps};
+    ghost use Rattle.amqp_wire.specs.Forms.{Counts, Counted, MarksCount, IsUnchecked, counts_chain, counts_inside, counts_bounded, any, any_on, any_adds, any_within, any_keeps};
 
     ghost adds = { Counts };
 
     ghost within = { Counted };
 
-    ghost extends = { Any };
+    ghost extends = { IsUnchecked };
 
-    ghost marks = { CountMarks };
+    ghost marks = { MarksCount };
 
     ghost reads = { record { ranges = true; sound = λ _. Unit {0} } };
 
@@ -113,7 +113,7 @@ impl Sink for Counter {
         Mark {
             len: self.len,
             hints: self.hints.len(),
-            spoiled: false,
+            poisoned: false,
         }
     }
 

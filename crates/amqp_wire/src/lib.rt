@@ -29,7 +29,7 @@ mod pass_compound;
 mod pass_serializer;
 mod passes;
 mod pending;
-mod place;
+mod position;
 mod put;
 mod scalar_forms;
 mod search;

@@ -7,7 +7,7 @@ ghost use Rattle.amqp_ser.specs.Marked.{with_marker};
 ghost use Rattle.amqp_ser.specs.Tree.{Descriptor, Tree, scalar, string, binary};
 ghost use Rattle.amqp_wire.specs.Pending.{fits, meant};
 
-use amqp_frame::is_frame;
+use amqp_frame::is_encoded_value;
 use amqp_ser::{CompoundKind, Fixed, Marker};
 
 /// A requirement on the next tree.
@@ -75,7 +75,7 @@ impl Pending {
             Pending::Marker(Marker::Decimal32) => bytes.len() == 4,
             Pending::Marker(Marker::Decimal64) => bytes.len() == 8,
             Pending::Marker(Marker::Decimal128 | Marker::Uuid) => bytes.len() == 16,
-            Pending::Marker(Marker::Lazy) => is_frame(bytes),
+            Pending::Marker(Marker::Lazy) => is_encoded_value(bytes),
             _ => false,
         }
     }

@@ -10,7 +10,7 @@ ghost use Rattle.serde_amqp.specs.Marked.{with_marker};
 ghost use Rattle.serde_amqp.specs.Tree.{Descriptor, Tree, scalar, string, binary};
 ghost use Rattle.examples.specs.PendingMarker.{fits, meant};
 
-use serde_amqp::lazy::is_frame;
+use serde_amqp::lazy::is_encoded_value;
 use serde_amqp::ser::{CompoundKind, Fixed, Marker};
 
 /// A requirement on the next tree.
@@ -80,7 +80,7 @@ impl PendingMarker {
             PendingMarker::Marker(Marker::Decimal32) => bytes.len() == 4,
             PendingMarker::Marker(Marker::Decimal64) => bytes.len() == 8,
             PendingMarker::Marker(Marker::Decimal128 | Marker::Uuid) => bytes.len() == 16,
-            PendingMarker::Marker(Marker::Lazy) => is_frame(bytes),
+            PendingMarker::Marker(Marker::Lazy) => is_encoded_value(bytes),
             _ => false,
         }
     }

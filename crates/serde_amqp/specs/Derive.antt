@@ -12,6 +12,6 @@ pub use Rattle.amqp_ser.specs.declared.kind.CompoundKind.TheVariants.{NewtypeVar
 pub use Rattle.amqp_de.specs.Defaults.{value_or}
 pub use Rattle.amqp_de.specs.Laws.{by_parts, by_names, by_image, by_text, by_string, by_scalar}
 pub use Rattle.amqp_de.specs.Parts.{◌▸◌}
-pub use Rattle.amqp_de.specs.Places.{first, second, third, fourth, fifth, sixth, seventh, eighth, ninth, tenth}
-pub use Rattle.amqp_de.specs.Places.{rest1, rest2, rest3, rest4, rest5, rest6, rest7, rest8, rest9, rest10}
+pub use Rattle.amqp_de.specs.Ordinals.{first, second, third, fourth, fifth, sixth, seventh, eighth, ninth, tenth}
+pub use Rattle.amqp_de.specs.Ordinals.{rest1, rest2, rest3, rest4, rest5, rest6, rest7, rest8, rest9, rest10}
 pub use Rattle.amqp_from_value.specs.ShapeTrees.{tree_by_parts, tree_by_names, after_code, after_code_by_names}

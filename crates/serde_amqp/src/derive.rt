@@ -1,7 +1,7 @@
 //! What the impls that `tools/derive` writes use: traits, types, functions and macros of the other
 //! modules, under one path.
 
-pub use crate::{built, fields, named, place, variants};
+pub use crate::{alternative, built, fields, named, variants};
 pub use amqp_de::{
     AfterCode, AfterName, AnyOf, ByIndex, Composite, DataVariant, Defaulted, Deserialize, Either,
     Fault, FullListOf, ListOf, MapOf, Named, Nameless, Never, Of, OneOfTypes, Optional, Readable,

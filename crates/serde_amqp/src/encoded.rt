@@ -1,7 +1,7 @@
 //! Writes the encoding of a value.
 
 ghost use Rattle.std.specs.Prelude.{◌≤◌, IsErrOf};
-ghost use Rattle.amqp_frame.specs.Reader.{Failed};
+ghost use Rattle.amqp_frame.specs.Reader.{HasFailed};
 ghost use Rattle.serde_amqp.specs.Encoded.{PutsBytesOf};
 
 use crate::write::Write;
@@ -32,7 +32,7 @@ pub fn write_to<T: Serialize, W: Write>(
 ) -> Result<(), Error>
     ensures bytes { PutsBytesOf (T.tree value.now) result
         (W.written writer.old) (W.written writer.new) }
-    ensures io { IsErrOf result Error.Io → Failed (W.failures writer.old) (W.failures writer.new) }
+    ensures io { IsErrOf result Error.Io → HasFailed (W.failures writer.old) (W.failures writer.new) }
     ensures count { W.failures writer.old ≤ W.failures writer.new }
 {
     match to_vec(alloc, value) {

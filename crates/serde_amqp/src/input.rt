@@ -2,7 +2,7 @@
 
 ghost use Rattle.std.specs.Prelude.{◌≡◌, ◌≤◌, ◌⊎◌, IfOk, IfErr, IsErrOf};
 ghost use Rattle.std.specs.Io.KnownBytes.{Consumes, IsAtEnd};
-ghost use Rattle.amqp_frame.specs.Reader.{Failed};
+ghost use Rattle.amqp_frame.specs.Reader.{HasFailed};
 
 use amqp_data::Error;
 use amqp_frame::Read;
@@ -16,7 +16,7 @@ pub(crate) fn read_to_end<R: Read>(alloc: Global, reader: &mut R) -> Result<Vec<
     ensures ok { IfOk result (λ bytes.
         Consumes (R.left reader.old) (R.left reader.new) bytes.items
         × IsAtEnd (R.left reader.new)) }
-    ensures io { IsErrOf result Error.Io → Failed (R.failures reader.old) (R.failures reader.new) }
+    ensures io { IsErrOf result Error.Io → HasFailed (R.failures reader.old) (R.failures reader.new) }
     ensures others { IfErr result (λ e. (e ≡ Error.OutOfMemory) ⊎ (e ≡ Error.Io)) }
     ensures count { R.failures reader.old ≤ R.failures reader.new }
 {

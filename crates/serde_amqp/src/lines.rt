@@ -2,7 +2,7 @@
 
 ghost use Rattle.std.specs.Prelude.{◌≡◌, ◌≤◌, ◌⊎◌, true, false, IfOk, OnOk, IfErr, IfSome, IsErrOf, IsOkUnless, IsUtf8};
 ghost use Rattle.std.specs.Io.KnownBytes.{Appends, IsAtEnd};
-ghost use Rattle.amqp_frame.specs.Reader.{Failed};
+ghost use Rattle.amqp_frame.specs.Reader.{HasFailed};
 ghost use Rattle.amqp_ser.specs.Writable.{writable};
 ghost use Rattle.amqp_value.specs.Text.{text_of};
 ghost use Rattle.amqp_value.specs.TreeOf.{tree_of};
@@ -62,8 +62,8 @@ pub fn run_lines<R: Read, W: Write>(
     ensures flushed { OnOk result (W.flushed writer.new) }
     // When each result is returned.
     ensures exact { IfSome (R.left reader.old) (λ s. LinesDecidedBy s result) }
-    ensures io { IsErrOf result Error.Io → Failed (R.failures reader.old) (R.failures reader.new)
-        ⊎ Failed (W.failures writer.old) (W.failures writer.new) }
+    ensures io { IsErrOf result Error.Io → HasFailed (R.failures reader.old) (R.failures reader.new)
+        ⊎ HasFailed (W.failures writer.old) (W.failures writer.new) }
     ensures reads { R.failures reader.old ≤ R.failures reader.new }
     ensures writes { W.failures writer.old ≤ W.failures writer.new }
 {

@@ -74,7 +74,7 @@ macro_rules! values {
 ///
 /// `unit` is a variant without a value, `newtype` is a variant with one value, and the value of a
 /// variant with fields is the list of them. Inside `ByIndex` it reads one of the variants, which
-/// the pattern `place!` matches.
+/// the pattern `alternative!` matches.
 ///
 /// `shape Fields` is a variant whose value is read by the shape `Fields`, which implements
 /// `Nameless`. The borrow checker allows the names of the fields of the last variant with a value
@@ -126,31 +126,31 @@ macro_rules! built {
     }};
 }
 
-/// The pattern of the alternative at a place, counted from 0: `place!(2, value)`. `place!(rest 3,
+/// The pattern of an alternative by its number, from 0: `alternative!(2, value)`. `alternative!(rest 3,
 /// value)` is what follows the first three.
 #[macro_export]
-macro_rules! place {
+macro_rules! alternative {
     (0, $value:pat) => { $crate::de::Either::This($value) };
-    (1, $value:pat) => { $crate::de::Either::Other($crate::place!(0, $value)) };
-    (2, $value:pat) => { $crate::de::Either::Other($crate::place!(1, $value)) };
-    (3, $value:pat) => { $crate::de::Either::Other($crate::place!(2, $value)) };
-    (4, $value:pat) => { $crate::de::Either::Other($crate::place!(3, $value)) };
-    (5, $value:pat) => { $crate::de::Either::Other($crate::place!(4, $value)) };
-    (6, $value:pat) => { $crate::de::Either::Other($crate::place!(5, $value)) };
-    (7, $value:pat) => { $crate::de::Either::Other($crate::place!(6, $value)) };
-    (8, $value:pat) => { $crate::de::Either::Other($crate::place!(7, $value)) };
-    (9, $value:pat) => { $crate::de::Either::Other($crate::place!(8, $value)) };
+    (1, $value:pat) => { $crate::de::Either::Other($crate::alternative!(0, $value)) };
+    (2, $value:pat) => { $crate::de::Either::Other($crate::alternative!(1, $value)) };
+    (3, $value:pat) => { $crate::de::Either::Other($crate::alternative!(2, $value)) };
+    (4, $value:pat) => { $crate::de::Either::Other($crate::alternative!(3, $value)) };
+    (5, $value:pat) => { $crate::de::Either::Other($crate::alternative!(4, $value)) };
+    (6, $value:pat) => { $crate::de::Either::Other($crate::alternative!(5, $value)) };
+    (7, $value:pat) => { $crate::de::Either::Other($crate::alternative!(6, $value)) };
+    (8, $value:pat) => { $crate::de::Either::Other($crate::alternative!(7, $value)) };
+    (9, $value:pat) => { $crate::de::Either::Other($crate::alternative!(8, $value)) };
     (rest 0, $value:pat) => { $value };
-    (rest 1, $value:pat) => { $crate::de::Either::Other($crate::place!(rest 0, $value)) };
-    (rest 2, $value:pat) => { $crate::de::Either::Other($crate::place!(rest 1, $value)) };
-    (rest 3, $value:pat) => { $crate::de::Either::Other($crate::place!(rest 2, $value)) };
-    (rest 4, $value:pat) => { $crate::de::Either::Other($crate::place!(rest 3, $value)) };
-    (rest 5, $value:pat) => { $crate::de::Either::Other($crate::place!(rest 4, $value)) };
-    (rest 6, $value:pat) => { $crate::de::Either::Other($crate::place!(rest 5, $value)) };
-    (rest 7, $value:pat) => { $crate::de::Either::Other($crate::place!(rest 6, $value)) };
-    (rest 8, $value:pat) => { $crate::de::Either::Other($crate::place!(rest 7, $value)) };
-    (rest 9, $value:pat) => { $crate::de::Either::Other($crate::place!(rest 8, $value)) };
-    (rest 10, $value:pat) => { $crate::de::Either::Other($crate::place!(rest 9, $value)) };
+    (rest 1, $value:pat) => { $crate::de::Either::Other($crate::alternative!(rest 0, $value)) };
+    (rest 2, $value:pat) => { $crate::de::Either::Other($crate::alternative!(rest 1, $value)) };
+    (rest 3, $value:pat) => { $crate::de::Either::Other($crate::alternative!(rest 2, $value)) };
+    (rest 4, $value:pat) => { $crate::de::Either::Other($crate::alternative!(rest 3, $value)) };
+    (rest 5, $value:pat) => { $crate::de::Either::Other($crate::alternative!(rest 4, $value)) };
+    (rest 6, $value:pat) => { $crate::de::Either::Other($crate::alternative!(rest 5, $value)) };
+    (rest 7, $value:pat) => { $crate::de::Either::Other($crate::alternative!(rest 6, $value)) };
+    (rest 8, $value:pat) => { $crate::de::Either::Other($crate::alternative!(rest 7, $value)) };
+    (rest 9, $value:pat) => { $crate::de::Either::Other($crate::alternative!(rest 8, $value)) };
+    (rest 10, $value:pat) => { $crate::de::Either::Other($crate::alternative!(rest 9, $value)) };
 }
 
 /// Builds a list: `list![in alloc; item, ..]`, of type `Result<Value, Error>`.
@@ -164,7 +164,7 @@ macro_rules! place {
 #[macro_export]
 macro_rules! list {
     (in $alloc:expr; $($items:tt)*) => {
-        $crate::list_items!($crate::value::BuildList::new($alloc); $($items)*)
+        $crate::list_items!($crate::value::ListLiteral::new($alloc); $($items)*)
     };
 }
 
@@ -194,7 +194,7 @@ macro_rules! list_items {
 #[macro_export]
 macro_rules! map {
     (in $alloc:expr; $($entries:tt)*) => {
-        $crate::map_entries!($crate::value::BuildMap::new($alloc); $($entries)*)
+        $crate::map_entries!($crate::value::MapLiteral::new($alloc); $($entries)*)
     };
 }
 

@@ -10,5 +10,5 @@ pub use amqp_from_value::{
 };
 pub use amqp_to_value::{TryFromSerializable, to_value};
 pub use amqp_value::{
-    BuildList, BuildMap, ConvertFault, IntoValue, MapBuilder, Value, ValueKind, is_short_key,
+    ConvertFault, IntoValue, ListLiteral, MapBuilder, MapLiteral, Value, ValueKind, is_short_key,
 };

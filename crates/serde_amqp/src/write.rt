@@ -2,7 +2,7 @@
 
 ghost use Rattle.std.specs.Prelude.{◌≡◌, ◌≤◌, ◌⊎◌, ℕ, Bool, List, Option, OnOk, OnErr, IfErr, IsErrOf, IsOkUnless};
 ghost use Rattle.std.specs.Io.KnownBytes.{Keeps, Appends};
-ghost use Rattle.amqp_frame.specs.Reader.{last_count, Failed, answers_io};
+ghost use Rattle.amqp_frame.specs.Reader.{last_count, HasFailed, answers_io};
 ghost use Rattle.serde_amqp.specs.Writer.{TakesPrefix};
 
 use amqp_data::Error;
@@ -44,7 +44,7 @@ pub trait Write {
         ensures ok { OnOk result (Appends (written self.old) (written self.new) bytes.now) }
         ensures prefix { OnErr result
             (TakesPrefix (written self.old) (written self.new) bytes.now) }
-        ensures io { IsErrOf result Error.Io → Failed (failures self.old) (failures self.new) }
+        ensures io { IsErrOf result Error.Io → HasFailed (failures self.old) (failures self.new) }
         ensures others { IfErr result (λ e. (e ≡ Error.OutOfMemory) ⊎ (e ≡ Error.Io)) }
         ensures last { failures self.old ≡ last_count → IsErrOf result Error.Io }
         ensures counts { counts (answers_io result) (failures self.old) (failures self.new) }
@@ -62,7 +62,7 @@ pub trait Write {
     fn flush(&mut self) -> Result<(), Error>
         ensures ok { OnOk result (flushed self.new) }
         ensures io { IfErr result (λ e.
-            (e ≡ Error.Io) × Failed (failures self.old) (failures self.new)) }
+            (e ≡ Error.Io) × HasFailed (failures self.old) (failures self.new)) }
         ensures last { failures self.old ≡ last_count → IsErrOf result Error.Io }
         ensures kept { Keeps (written self.old) (written self.new) }
         ensures counts { counts (answers_io result) (failures self.old) (failures self.new) }

@@ -3,7 +3,7 @@
 ghost use Rattle.std.specs.Prelude.{◌≡◌};
 ghost use Rattle.amqp_data.specs.Fixed.{dec32_bytes, dec64_bytes, dec128_bytes};
 ghost use Rattle.amqp_ser.specs.Tree.{scalar, decimal32, decimal64, decimal128};
-ghost use Rattle.amqp_de.specs.Reads.{Always};
+ghost use Rattle.amqp_de.specs.Reads.{HoldsAlways};
 
 use crate::deserialize::Deserialize;
 use crate::fault::Fault;
@@ -41,7 +41,7 @@ impl Deserialize for Dec32 {
 
     ghost image = { λ x. scalar (decimal32 (dec32_bytes x)) };
 
-    ghost restorable = { Always };
+    ghost restorable = { HoldsAlways };
 
     ghost same = { λ x y. dec32_bytes x ≡ dec32_bytes y };
 
@@ -83,7 +83,7 @@ impl Deserialize for Dec64 {
 
     ghost image = { λ x. scalar (decimal64 (dec64_bytes x)) };
 
-    ghost restorable = { Always };
+    ghost restorable = { HoldsAlways };
 
     ghost same = { λ x y. dec64_bytes x ≡ dec64_bytes y };
 
@@ -125,7 +125,7 @@ impl Deserialize for Dec128 {
 
     ghost image = { λ x. scalar (decimal128 (dec128_bytes x)) };
 
-    ghost restorable = { Always };
+    ghost restorable = { HoldsAlways };
 
     ghost same = { λ x y. dec128_bytes x ≡ dec128_bytes y };
 

@@ -3,9 +3,9 @@
 ghost use Rattle.std.specs.Prelude.{◌≡◌};
 ghost use Rattle.amqp_ser.specs.Carried.{descriptor_content};
 ghost use Rattle.amqp_ser.specs.Tree.{described};
-ghost use Rattle.amqp_decode.specs.Spells.{descriptor_scalar};
+ghost use Rattle.amqp_decode.specs.Encodes.{descriptor_scalar};
 ghost use Rattle.amqp_de.specs.Fields.{OnDescribed};
-ghost use Rattle.amqp_de.specs.Reads.{Always, descriptor_tree};
+ghost use Rattle.amqp_de.specs.Reads.{HoldsAlways, descriptor_tree};
 
 use crate::deserialize::Deserialize;
 use crate::fault::Fault;
@@ -50,7 +50,7 @@ impl Deserialize for Descriptor {
 
     ghost image = { λ d. descriptor_tree (descriptor_content d) };
 
-    ghost restorable = { Always };
+    ghost restorable = { HoldsAlways };
 
     ghost same = { λ d e. descriptor_content d ≡ descriptor_content e };
 

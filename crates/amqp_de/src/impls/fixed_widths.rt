@@ -4,7 +4,7 @@ ghost use Rattle.std.specs.Prelude.{◌≡◌};
 ghost use Rattle.std.specs.Int.{w64, from_be_bytes, cast_signed};
 ghost use Rattle.amqp_data.specs.Fixed.{milliseconds_of, uuid_bytes};
 ghost use Rattle.amqp_ser.specs.Tree.{scalar, char, timestamp, uuid};
-ghost use Rattle.amqp_de.specs.Reads.{Always};
+ghost use Rattle.amqp_de.specs.Reads.{HoldsAlways};
 
 use crate::deserialize::Deserialize;
 use crate::fault::Fault;
@@ -44,7 +44,7 @@ impl Deserialize for char {
 
     ghost image = { λ x. scalar (char x) };
 
-    ghost restorable = { Always };
+    ghost restorable = { HoldsAlways };
 
     ghost same = { λ x y. x ≡ y };
 
@@ -104,7 +104,7 @@ impl Deserialize for Timestamp {
 
     ghost image = { λ x. scalar (timestamp (milliseconds_of x)) };
 
-    ghost restorable = { Always };
+    ghost restorable = { HoldsAlways };
 
     ghost same = { λ x y. milliseconds_of x ≡ milliseconds_of y };
 
@@ -161,7 +161,7 @@ impl Deserialize for Uuid {
 
     ghost image = { λ x. scalar (uuid (uuid_bytes x)) };
 
-    ghost restorable = { Always };
+    ghost restorable = { HoldsAlways };
 
     ghost same = { λ x y. uuid_bytes x ≡ uuid_bytes y };
 

@@ -4,7 +4,7 @@ ghost use Rattle.std.specs.Prelude.{◌≡◌};
 ghost use Rattle.std.specs.Int.{w32, w64, from_be_bytes};
 ghost use Rattle.amqp_data.specs.Fixed.{f32_bits, f64_bits};
 ghost use Rattle.amqp_ser.specs.Tree.{scalar, float, double};
-ghost use Rattle.amqp_de.specs.Reads.{Always};
+ghost use Rattle.amqp_de.specs.Reads.{HoldsAlways};
 
 use crate::deserialize::Deserialize;
 use crate::fault::Fault;
@@ -57,7 +57,7 @@ impl Deserialize for F32Bits {
 
     ghost image = { λ x. scalar (float (f32_bits x)) };
 
-    ghost restorable = { Always };
+    ghost restorable = { HoldsAlways };
 
     ghost same = { λ x y. f32_bits x ≡ f32_bits y };
 
@@ -124,7 +124,7 @@ impl Deserialize for F64Bits {
 
     ghost image = { λ x. scalar (double (f64_bits x)) };
 
-    ghost restorable = { Always };
+    ghost restorable = { HoldsAlways };
 
     ghost same = { λ x y. f64_bits x ≡ f64_bits y };
 

@@ -6,8 +6,8 @@ ghost use Rattle.std.specs.List.{AllByRecursion};
 ghost use Rattle.std.specs.Map.{keys_of};
 ghost use Rattle.amqp_ser.specs.Tree as tree;
 ghost use Rattle.amqp_value.specs.TreeOf.{pairs_of};
-ghost use Rattle.amqp_de.specs.Maps.{OnMap, ReadsPairs, pair_image, IsPair, SamePair};
-ghost use Rattle.amqp_de.specs.Maps.{HoldsHashed, SameInSomeOrder, AreDistinct};
+ghost use Rattle.amqp_de.specs.Maps.{OnMap, ReadsPairs, pair_image, IsPair, AreSamePair};
+ghost use Rattle.amqp_de.specs.Maps.{HoldsHashed, AreSameInSomeOrder, AreDistinct};
 
 use super::maps::{Inserts, insert_all, read_certain};
 use crate::deserialize::Deserialize;
@@ -38,7 +38,7 @@ impl<K: Deserialize + Hash + Eq, V: Deserialize> Deserialize for HashMap<K, V> {
     ghost restorable = { λ m. AllByRecursion (IsPair K.restorable V.restorable) m.entries
         × AreDistinct K.same K.eq (keys_of m.entries) };
 
-    ghost same = { SameInSomeOrder (SamePair K.same V.same) };
+    ghost same = { AreSameInSomeOrder (AreSamePair K.same V.same) };
 
     fn read<S: Source>(alloc: Global, source: S) -> Result<(HashMap<K, V>, S::Rest), Fault> {
         let (entries, rest) = match source.map() {

@@ -5,7 +5,7 @@ ghost use Rattle.amqp_ser.specs.Tree.{scalar, null};
 ghost use Rattle.amqp_value.specs.Sound.{IsSound};
 ghost use Rattle.amqp_value.specs.TreeOf.{tree_of};
 ghost use Rattle.amqp_de.specs.Reads.{ReadsOption, image_option};
-ghost use Rattle.amqp_de.specs.Reads.{RestorableOption, SameOption};
+ghost use Rattle.amqp_de.specs.Reads.{IsRestorableOption, AreSameOption};
 
 use crate::deserialize::Deserialize;
 use crate::fault::Fault;
@@ -19,9 +19,9 @@ impl<T: Deserialize> Deserialize for Option<T> {
 
     ghost image = { image_option T.image };
 
-    ghost restorable = { RestorableOption T.image T.restorable };
+    ghost restorable = { IsRestorableOption T.image T.restorable };
 
-    ghost same = { SameOption T.same };
+    ghost same = { AreSameOption T.same };
 
     #[inline(always)]
     fn read<S: Source>(alloc: Global, source: S) -> Result<(Option<T>, S::Rest), Fault> {

@@ -3,14 +3,14 @@
 ghost use Rattle.std.specs.Prelude.{◌≡◌};
 ghost use Rattle.amqp_value.specs.TreeOf.{tree_of};
 ghost use Rattle.amqp_de.specs.Multiple.{is_array_tree, multiple_image};
-ghost use Rattle.amqp_de.specs.Multiple.{ReadsMultiple, RestorableMultiple, SameMultiple};
+ghost use Rattle.amqp_de.specs.Multiple.{ReadsMultiple, IsRestorableMultiple, AreSameMultiple};
 ghost use Rattle.amqp_de.specs.Results.{Takes, Brings, TakesAll, BringsAll};
 
 use crate::deserialize::Deserialize;
 use crate::fault::Fault;
-use crate::form::Form;
 use crate::held::read_value;
 use crate::source::Source;
+use crate::source_kind::SourceKind;
 use amqp_data::{Array, Multiple};
 use amqp_value::Value;
 use std::alloc::Global;
@@ -20,13 +20,13 @@ impl<T: Deserialize> Deserialize for Multiple<T> {
 
     ghost image = { multiple_image T.image };
 
-    ghost restorable = { RestorableMultiple T.image T.restorable };
+    ghost restorable = { IsRestorableMultiple T.image T.restorable };
 
-    ghost same = { SameMultiple T.same };
+    ghost same = { AreSameMultiple T.same };
 
     fn read<S: Source>(alloc: Global, source: S) -> Result<(Multiple<T>, S::Rest), Fault> {
-        match source.looks() {
-            Form::Array => match Array::<T>::read(alloc, source) {
+        match source.source_kind() {
+            SourceKind::Array => match Array::<T>::read(alloc, source) {
                 Ok((values, rest)) => Ok((Multiple::Many(values), rest)),
                 Err(fault) => Err(fault),
             },
@@ -45,8 +45,8 @@ fn read_untyped<T: Deserialize, S: Source>(
 ) -> Result<(Multiple<T>, S::Rest), Fault>
     ensures read { Takes (ReadsMultiple T.reads) (S.value source) (S.is_whole source)
         (S.left source) result }
-    ensures law { Brings (multiple_image T.image) (RestorableMultiple T.image T.restorable)
-        (SameMultiple T.same) (S.value source) (S.is_whole source) result }
+    ensures law { Brings (multiple_image T.image) (IsRestorableMultiple T.image T.restorable)
+        (AreSameMultiple T.same) (S.value source) (S.is_whole source) result }
 {
     let (value, rest) = match source.untyped(alloc) {
         Ok(read) => read,
@@ -61,8 +61,8 @@ fn read_untyped<T: Deserialize, S: Source>(
 // Reads one value, or an array of values.
 fn read_multiple<T: Deserialize>(alloc: Global, value: Value) -> Result<Multiple<T>, Fault>
     ensures read { TakesAll (ReadsMultiple T.reads) (tree_of value) (Unit {0}) result }
-    ensures law { BringsAll (multiple_image T.image) (RestorableMultiple T.image T.restorable)
-        (SameMultiple T.same) (tree_of value) (Unit {0}) result }
+    ensures law { BringsAll (multiple_image T.image) (IsRestorableMultiple T.image T.restorable)
+        (AreSameMultiple T.same) (tree_of value) (Unit {0}) result }
 {
     if is_array(&value) {
         return match read_value::<Array<T>>(alloc, value) {

@@ -48,7 +48,7 @@ fn insert_one<K: Hash + Eq + Drop, V: Drop>(
     requires { ArePlaced K.eq K.hash_input places.old entries.old.items }
     ensures inserted { OnOk result
         (entries.new.items ≡ insert_pair K.eq entries.old.items key value) }
-    ensures placed { OnOk result (ArePlaced K.eq K.hash_input places.new entries.new.items) }
+    ensures with_position { OnOk result (ArePlaced K.eq K.hash_input places.new entries.new.items) }
 {
     let hash = hash_of(&key);
     match find(entries, places, hash, &key) {
@@ -77,7 +77,7 @@ fn find<K: Hash + Eq, V>(
     hash: u64,
     key: &K,
 ) -> Option<usize>
-    requires placed { ArePlaced K.eq K.hash_input places.now entries.now }
+    requires with_position { ArePlaced K.eq K.hash_input places.now entries.now }
     requires hash { hash ≡ sorted.hash_of (K.hash_input key.now) }
     ensures { result ≡ position (λ e. K.eq key.now e.0) entries.now }
 {

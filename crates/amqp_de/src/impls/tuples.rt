@@ -2,7 +2,7 @@
 
 ghost use Rattle.std.specs.Prelude.{[], ◌∷◌};
 ghost use Rattle.amqp_ser.specs.Tree.{list, trees_of};
-ghost use Rattle.amqp_de.specs.Fields.{OnFields, ReadsRequired, NoMoreFields};
+ghost use Rattle.amqp_de.specs.Fields.{OnFields, ReadsRequired, HasNoMoreFields};
 ghost use Rattle.amqp_de.specs.Parts.{◌▸◌};
 
 use crate::deserialize::Deserialize;
@@ -36,7 +36,7 @@ impl<A: Deserialize> Record for (A,) {
 }
 
 impl<A: Deserialize> Deserialize for (A,) {
-    ghost reads = { λ t x. OnFields (ReadsRequired [] A.reads x.0 NoMoreFields) t };
+    ghost reads = { λ t x. OnFields (ReadsRequired [] A.reads x.0 HasNoMoreFields) t };
 
     ghost image = { λ x. list (trees_of (A.image x.0 ∷ [])) };
 
@@ -69,7 +69,7 @@ impl<A: Deserialize, B: Deserialize> Record for (A, B) {
 
 impl<A: Deserialize, B: Deserialize> Deserialize for (A, B) {
     ghost reads = { λ t x. OnFields (ReadsRequired [] A.reads x.0
-        (ReadsRequired [] B.reads x.1 NoMoreFields)) t };
+        (ReadsRequired [] B.reads x.1 HasNoMoreFields)) t };
 
     ghost image = { λ x. list (trees_of (A.image x.0 ∷ B.image x.1 ∷ [])) };
 
@@ -105,7 +105,7 @@ impl<A: Deserialize, B: Deserialize, C: Deserialize> Record for (A, B, C) {
 
 impl<A: Deserialize, B: Deserialize, C: Deserialize> Deserialize for (A, B, C) {
     ghost reads = { λ t x. OnFields (ReadsRequired [] A.reads x.0
-        (ReadsRequired [] B.reads x.1 (ReadsRequired [] C.reads x.2 NoMoreFields))) t };
+        (ReadsRequired [] B.reads x.1 (ReadsRequired [] C.reads x.2 HasNoMoreFields))) t };
 
     ghost image = { λ x. list (trees_of (A.image x.0 ∷ B.image x.1 ∷ C.image x.2 ∷ [])) };
 
@@ -147,7 +147,7 @@ impl<A: Deserialize, B: Deserialize, C: Deserialize, D: Deserialize> Record for 
 impl<A: Deserialize, B: Deserialize, C: Deserialize, D: Deserialize> Deserialize for (A, B, C, D) {
     ghost reads = { λ t x. OnFields (ReadsRequired [] A.reads x.0
         (ReadsRequired [] B.reads x.1 (ReadsRequired [] C.reads x.2
-        (ReadsRequired [] D.reads x.3 NoMoreFields)))) t };
+        (ReadsRequired [] D.reads x.3 HasNoMoreFields)))) t };
 
     ghost image = { λ x.
         list (trees_of (A.image x.0 ∷ B.image x.1 ∷ C.image x.2 ∷ D.image x.3 ∷ [])) };

@@ -2,7 +2,7 @@
 
 ghost use Rattle.std.specs.Prelude.{◌≡◌};
 ghost use Rattle.amqp_ser.specs.Tree.{scalar, null};
-ghost use Rattle.amqp_de.specs.Reads.{Always};
+ghost use Rattle.amqp_de.specs.Reads.{HoldsAlways};
 
 use crate::deserialize::Deserialize;
 use crate::fault::Fault;
@@ -14,7 +14,7 @@ impl Deserialize for () {
 
     ghost image = { λ _. scalar null };
 
-    ghost restorable = { Always };
+    ghost restorable = { HoldsAlways };
 
     ghost same = { λ x y. x ≡ y };
 

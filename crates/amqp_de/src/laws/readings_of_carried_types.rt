@@ -23,9 +23,9 @@ ghost use Rattle.amqp_value.specs.Converts.{inserted_in_order, inserted_sorted};
 ghost use Rattle.amqp_value.specs.Sound.{IsSound};
 ghost use Rattle.amqp_value.specs.TreeOf.{pairs_of, tree_of};
 ghost use Rattle.amqp_value.specs.declared.value.Value.{Value};
-ghost use Rattle.amqp_de.specs.Maps.{AreDistinct, Ascend, ReadsPairs, SameInSomeOrder};
-ghost use Rattle.amqp_de.specs.Readings.{BeginsWith, ImageOfEach, ReadsEach, ReadsScalar};
-ghost use Rattle.amqp_de.specs.Readings.{RestorableIfEach, SameIfEach};
+ghost use Rattle.amqp_de.specs.Maps.{AreDistinct, AreAscending, ReadsPairs, AreSameInSomeOrder};
+ghost use Rattle.amqp_de.specs.Readings.{BeginsWith, IsImageOfEach, ReadsEach, ReadsScalar};
+ghost use Rattle.amqp_de.specs.Readings.{IsRestorableIfEach, AreSameIfEach};
 ghost use Rattle.amqp_de.specs.Values.{elements_in, entries_in};
 
 use crate::deserialize::Deserialize;
@@ -138,30 +138,30 @@ pub fn readings_of_boxes<T: Deserialize>()
 /// A `Vec` is read from a list, all of whose elements are read, in order.
 pub fn readings_of_vectors<T: Deserialize>()
     ensures reads { ReadsEach tree.list (λ v. v.items) T.reads ⟦<Vec<T> as Deserialize>⟧.reads }
-    ensures image { ImageOfEach tree.list (λ v. v.items) T.image ⟦<Vec<T> as Deserialize>⟧.image }
-    ensures restorable { RestorableIfEach (λ v. v.items) T.restorable
+    ensures image { IsImageOfEach tree.list (λ v. v.items) T.image ⟦<Vec<T> as Deserialize>⟧.image }
+    ensures restorable { IsRestorableIfEach (λ v. v.items) T.restorable
         ⟦<Vec<T> as Deserialize>⟧.restorable }
-    ensures same { SameIfEach (λ v. v.items) T.same ⟦<Vec<T> as Deserialize>⟧.same }
+    ensures same { AreSameIfEach (λ v. v.items) T.same ⟦<Vec<T> as Deserialize>⟧.same }
 {}
 
 /// A `TransparentVec` is read from a list, all of whose elements are read, in order.
 pub fn readings_of_transparent_vectors<T: Deserialize>()
     ensures reads { ReadsEach tree.list transparent_items T.reads
         ⟦<TransparentVec<T> as Deserialize>⟧.reads }
-    ensures image { ImageOfEach tree.list transparent_items T.image
+    ensures image { IsImageOfEach tree.list transparent_items T.image
         ⟦<TransparentVec<T> as Deserialize>⟧.image }
-    ensures restorable { RestorableIfEach transparent_items T.restorable
+    ensures restorable { IsRestorableIfEach transparent_items T.restorable
         ⟦<TransparentVec<T> as Deserialize>⟧.restorable }
-    ensures same { SameIfEach transparent_items T.same ⟦<TransparentVec<T> as Deserialize>⟧.same }
+    ensures same { AreSameIfEach transparent_items T.same ⟦<TransparentVec<T> as Deserialize>⟧.same }
 {}
 
 /// An `Array` is read from an array, all of whose elements are read, in order.
 pub fn readings_of_arrays<T: Deserialize>()
     ensures reads { ReadsEach tree.array array_items T.reads ⟦<Array<T> as Deserialize>⟧.reads }
-    ensures image { ImageOfEach tree.array array_items T.image ⟦<Array<T> as Deserialize>⟧.image }
-    ensures restorable { RestorableIfEach array_items T.restorable
+    ensures image { IsImageOfEach tree.array array_items T.image ⟦<Array<T> as Deserialize>⟧.image }
+    ensures restorable { IsRestorableIfEach array_items T.restorable
         ⟦<Array<T> as Deserialize>⟧.restorable }
-    ensures same { SameIfEach array_items T.same ⟦<Array<T> as Deserialize>⟧.same }
+    ensures same { AreSameIfEach array_items T.same ⟦<Array<T> as Deserialize>⟧.same }
 {}
 
 /// A tuple is read from a list whose first elements are read as its fields, in order. Further
@@ -240,7 +240,7 @@ pub fn images_of_maps<K: Deserialize + Ord + Hash, V: Deserialize>(
         × AreDistinct K.same K.eq (keys_of (entries_of m))) }
     ensures sorted_restorable { ⟦<BTreeMap<K, V> as Deserialize>⟧.restorable sorted.now
         ↔ (AllByRecursion (λ p. K.restorable p.0 × V.restorable p.1) sorted.now.entries
-        × Ascend K.same K.cmp (keys_of sorted.now.entries)) }
+        × AreAscending K.same K.cmp (keys_of sorted.now.entries)) }
     ensures hashed_restorable { ⟦<HashMap<K, V> as Deserialize>⟧.restorable hashed.now
         ↔ (AllByRecursion (λ p. K.restorable p.0 × V.restorable p.1) hashed.now.entries
         × AreDistinct K.same K.eq (keys_of hashed.now.entries)) }

@@ -1,16 +1,16 @@
 //! The encoded sections of a message.
 
 ghost use Rattle.std.specs.Prelude.{◌≡◌, ◌++◌, [], None, Some, IfOk, IfErr, IfSome, IfNone};
-ghost use Rattle.amqp_messaging.specs.Sections.{place, may_repeat, AreSections, Follows, IsSection, Misplaced, RefusesFirst, RefusesSection, RefusesSections};
+ghost use Rattle.amqp_messaging.specs.Sections.{section_order, may_repeat, AreSections, Follows, IsSection, IsMisplaced, RefusesFirst, RefusesSection, RefusesSections};
 
 use crate::message::error::MessageError;
 use crate::message::kind::{SectionKind, kind_of};
 use serde_amqp::lazy::frame_len;
 
 impl SectionKind {
-    // Returns the place of the kind in a message. The three kinds of a body have one.
-    fn place(self) -> u8
-        ensures { result ≡ place self }
+    // Returns the order of the kind in a message. The three kinds of a body have one.
+    fn section_order(self) -> u8
+        ensures { result ≡ section_order self }
     {
         match self {
             SectionKind::Header => 0,
@@ -33,7 +33,7 @@ impl SectionKind {
     // Returns an error if a section of this kind cannot follow one of the last kind.
     fn follows(self, last: SectionKind) -> Result<(), MessageError>
         ensures ok { IfOk result (λ _. Follows (Some last) self) }
-        ensures refused { IfErr result (λ e. Misplaced e last self) }
+        ensures refused { IfErr result (λ e. IsMisplaced e last self) }
     {
         if self == last {
             if self.may_repeat() {
@@ -41,10 +41,10 @@ impl SectionKind {
             }
             return Err(MessageError::Repeated);
         }
-        let (place, other) = (self.place(), last.place());
-        if place > other {
+        let (section_order, other) = (self.section_order(), last.section_order());
+        if section_order > other {
             Ok(())
-        } else if place < other {
+        } else if section_order < other {
             Err(MessageError::OutOfOrder)
         } else {
             Err(MessageError::MixedBody)

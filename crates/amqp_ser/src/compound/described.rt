@@ -3,9 +3,9 @@
 ghost use Rattle.std.specs.Prelude.{◌≡◌, ◌∷◌, [], Option, Some, None, Err, MatchResult, IsErr};
 ghost use Rattle.amqp_ser.specs.Tree.{Tree};
 ghost use Rattle.amqp_ser.specs.Composites.{as_described, descriptor_of};
-ghost use Rattle.amqp_ser.specs.Structs.{Stands};
+ghost use Rattle.amqp_ser.specs.Structs.{HasDescribed};
 
-use super::feed::feed_part;
+use super::part::serialize_part;
 use crate::kind::CompoundKind;
 use crate::serialize::Serialize;
 use crate::serializer::Serializer;
@@ -19,16 +19,16 @@ use crate::serializer::Serializer;
 ///
 /// # Example
 /// The ulong 1 is `005301` before the value, the symbol `a:b` is `00a303613a62`.
-#[tactic(auto, unfolding(crate::specs::Structs::Stands))]
+#[tactic(auto, unfolding(crate::specs::Structs::HasDescribed))]
 #[inline(always)]
-pub fn feed_descriptor<S: Serializer, T: Serialize>(
+pub fn serialize_descriptor<S: Serializer, T: Serialize>(
     serializer: &mut S,
     compound: &mut S::Open,
     value: &T,
 ) -> Result<(), S::Error>
-    ensures fed { (start : S) → S.has start CompoundKind.Single serializer.old compound.old [] →
+    ensures accepted { (start : S) → S.has start CompoundKind.Single serializer.old compound.old [] →
         MatchResult result
-        (λ _. Stands S.permits S.has start (Some (T.tree value.now)) CompoundKind.Single serializer.new
+        (λ _. HasDescribed S.permits S.has start (Some (T.tree value.now)) CompoundKind.Single serializer.new
         compound.new [])
         (λ e. S.has start CompoundKind.Single serializer.new compound.new [] × ((t : Option Tree) →
         S.permits start (as_described (descriptor_of (T.tree value.now)) t)
@@ -49,7 +49,7 @@ pub fn feed_descriptor<S: Serializer, T: Serialize>(
 /// # Example
 /// `true` is `41`, and after the descriptor 1 it is `00530141`.
 #[inline(always)]
-pub fn feed_single<S: Serializer, T: Serialize>(
+pub fn serialize_single<S: Serializer, T: Serialize>(
     serializer: &mut S,
     compound: &mut S::Open,
     value: &T,
@@ -60,7 +60,7 @@ pub fn feed_single<S: Serializer, T: Serialize>(
         (λ e. S.has start CompoundKind.Single serializer.new compound.new []
         × S.permits start (T.tree value.now) (Err e) serializer.new) }
 {
-    feed_part(serializer, compound, value)
+    serialize_part(serializer, compound, value)
 }
 
 /// Ends a single compound that has its one value.
@@ -90,7 +90,7 @@ pub fn end_single<S: Serializer>(serializer: &mut S, compound: S::Open) -> Resul
 ///
 /// # Example
 /// The code 1 and `true` are `00530141`.
-#[tactic(auto, unfolding(crate::specs::Structs::Stands))]
+#[tactic(auto, unfolding(crate::specs::Structs::HasDescribed))]
 #[inline(always)]
 pub fn serialize_described<S: Serializer, D: Serialize, T: Serialize>(
     serializer: &mut S,
@@ -102,7 +102,7 @@ pub fn serialize_described<S: Serializer, D: Serialize, T: Serialize>(
         serializer.new }
 {
     let mut compound = serializer.begin_compound(CompoundKind::Single);
-    feed_descriptor(&mut *serializer, &mut compound, descriptor)?;
+    serialize_descriptor(&mut *serializer, &mut compound, descriptor)?;
     serializer.begin_part(&mut compound);
     value.serialize(serializer)
 }

@@ -6,9 +6,9 @@ ghost use Rattle.std.specs.Borrow.{Lends, sem};
 ghost use Rattle.amqp_ser.specs.Marked.{is_descriptor_name};
 ghost use Rattle.amqp_ser.specs.OpenStructs.{struct_reference, struct_with_serializer, form_of, has_descriptor, has_field, StructFieldStep, StructHas, EndsStruct};
 
-use super::any_field::feed_any;
+use super::any_field::serialize_any_field;
 use super::body::end_fields;
-use super::list_field::feed_list_field;
+use super::list_field::serialize_list_field;
 use crate::kind::CompoundKind;
 use crate::names::is_descriptor_name;
 use crate::serialize::Serialize;
@@ -83,7 +83,7 @@ impl<'a, S: Serializer> SerializeStruct<'a, S> {
     ///
     /// # Example
     /// The one field `x`, the ubyte 1, is `c003015001`.
-    #[tactic(auto, unfolding(crate::specs::Structs::Stands))]
+    #[tactic(auto, unfolding(crate::specs::Structs::HasDescribed))]
     #[inline(always)]
     pub fn list(serializer: &'a mut S, _len: usize) -> SerializeStruct<'a, S>
         ensures opened { StructHas S.permits S.has serializer.old None CompoundKind.Single result [] }
@@ -103,7 +103,7 @@ impl<'a, S: Serializer> SerializeStruct<'a, S> {
     ///
     /// # Example
     /// The one field `x`, the ubyte 1, is `c10602a101785001`.
-    #[tactic(auto, unfolding(crate::specs::Structs::Stands))]
+    #[tactic(auto, unfolding(crate::specs::Structs::HasDescribed))]
     #[inline(always)]
     pub fn map(serializer: &'a mut S) -> SerializeStruct<'a, S>
         ensures opened { StructHas S.permits S.has serializer.old None CompoundKind.Single result [] }
@@ -123,7 +123,7 @@ impl<'a, S: Serializer> SerializeStruct<'a, S> {
     ///
     /// # Example
     /// The one field `x`, the ubyte 1, is `5001`.
-    #[tactic(auto, unfolding(crate::specs::Structs::Stands))]
+    #[tactic(auto, unfolding(crate::specs::Structs::HasDescribed))]
     #[inline(always)]
     pub fn basic(serializer: &'a mut S) -> SerializeStruct<'a, S>
         ensures opened { StructHas S.permits S.has serializer.old None CompoundKind.Single result [] }
@@ -161,7 +161,7 @@ impl<'a, S: Serializer> SerializeStruct<'a, S> {
     /// The ubyte 1 with the key `x` appends `5001`, and under the name `DESCRIBED_MAP`
     /// `a101785001`. As the first field, the ulong 1 with the key `DESCRIPTOR` puts `005301` before
     /// the fields.
-    #[tactic(auto, unfolding(crate::specs::Structs::Stands))]
+    #[tactic(auto, unfolding(crate::specs::Structs::HasDescribed))]
     #[inline(always)]
     pub fn serialize_field<T: Serialize>(
         &mut self,
@@ -185,7 +185,7 @@ impl<'a, S: Serializer> SerializeStruct<'a, S> {
         // share one function call.
         let descriptor = is_descriptor_name(key);
         if descriptor || !matches!(self.form, StructEncoding::List) {
-            return match feed_any(
+            return match serialize_any_field(
                 &mut *self.serializer,
                 &mut self.compound,
                 self.form,
@@ -205,7 +205,7 @@ impl<'a, S: Serializer> SerializeStruct<'a, S> {
                 Err(e) => Err(e),
             };
         }
-        match feed_list_field(
+        match serialize_list_field(
             &mut *self.serializer,
             &mut self.compound,
             self.opened,

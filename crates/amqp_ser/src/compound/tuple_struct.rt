@@ -3,12 +3,12 @@
 ghost use Rattle.std.specs.Prelude.{◌≡◌, [], IfOk, IfErr, ◌||◌, not, false};
 ghost use mir.Syntax.{named};
 ghost use Rattle.std.specs.Borrow.{Lends, sem};
-ghost use Rattle.amqp_ser.specs.StructFeeding.{TupleFieldStep};
+ghost use Rattle.amqp_ser.specs.StructSteps.{TupleFieldStep};
 ghost use Rattle.amqp_ser.specs.OpenStructs.{tuple_struct_reference, tuple_struct_with_serializer, is_single, lacks_descriptor, is_open, TupleStructFieldStep, EndsTupleStruct};
 
 use super::body::{end_fields, open_body};
-use super::described::{feed_descriptor, feed_single};
-use super::feed::feed_part;
+use super::described::{serialize_descriptor, serialize_single};
+use super::part::serialize_part;
 use crate::serialize::Serialize;
 use crate::serializer::Serializer;
 use crate::struct_encoding::StructEncoding;
@@ -23,9 +23,9 @@ use crate::struct_encoding::StructEncoding;
 ///
 /// # Example
 /// `true` appends `41` to a list that has been open from the start.
-#[tactic(auto, unfolding(crate::specs::Structs::Stands))]
+#[tactic(auto, unfolding(crate::specs::Structs::HasDescribed))]
 #[inline(always)]
-pub fn feed_tuple_field<S: Serializer, T: Serialize>(
+pub fn serialize_tuple_field<S: Serializer, T: Serialize>(
     serializer: &mut S,
     compound: &mut S::Open,
     single: bool,
@@ -37,16 +37,16 @@ pub fn feed_tuple_field<S: Serializer, T: Serialize>(
         (T.tree value.now) serializer.old compound.old result serializer.new compound.new }
 {
     if wants_descriptor {
-        return feed_descriptor(serializer, compound, value);
+        return serialize_descriptor(serializer, compound, value);
     }
     if opened {
         if single {
             return Err(serializer.misuse_error(compound));
         }
-        return feed_part(serializer, compound, value);
+        return serialize_part(serializer, compound, value);
     }
     if single {
-        feed_single(serializer, compound, value)
+        serialize_single(serializer, compound, value)
     } else {
         open_body(serializer, compound, false, "", value)
     }
@@ -137,7 +137,7 @@ impl<'a, S: Serializer> SerializeTupleStruct<'a, S> {
     /// # Example
     /// The ubyte 1 appends `5001`. Under the name `DESCRIBED_LIST` a first ulong 1 puts `005301`
     /// before the fields.
-    #[tactic(auto, unfolding(crate::specs::Structs::Stands))]
+    #[tactic(auto, unfolding(crate::specs::Structs::HasDescribed))]
     #[inline(always)]
     pub fn serialize_field<T: Serialize>(&mut self, value: &T) -> Result<(), S::Error>
         ensures ok { IfOk result
@@ -152,7 +152,7 @@ impl<'a, S: Serializer> SerializeTupleStruct<'a, S> {
         ensures same { (tuple_struct_reference self.new).ghost_name
             ≡ (tuple_struct_reference self.old).ghost_name }
     {
-        feed_tuple_field(
+        serialize_tuple_field(
             &mut *self.serializer,
             &mut self.compound,
             self.single,

@@ -7,12 +7,14 @@ ghost use Rattle.amqp_ser.specs.Tree.{Tree};
 ghost use Rattle.amqp_ser.specs.Compounds.{paired, tree_of_parts};
 ghost use Rattle.amqp_ser.specs.declared.kind.CompoundKind.TheVariants as kind;
 ghost use Rattle.amqp_to_value.specs.ValueSerializer.{ValuePermits};
-ghost use Rattle.amqp_to_value.specs.OpenCompounds.{FeedsMap, FeedsPair, MapHas, RefusesInTurn, has_key, lends_of_map, map_reference};
+ghost use Rattle.amqp_to_value.specs.OpenCompounds.{SerializesMapPart, SerializesPair, MapHas, RefusesInTurn, has_key, lends_of_map, map_reference};
 
 use crate::open_value::OpenValue;
 use crate::serializer::Serializer;
 use amqp_data::Error;
-use amqp_ser::{Compound, CompoundKind, Serialize, Serializer as _, feed_entry, feed_part};
+use amqp_ser::{
+    Compound, CompoundKind, Serialize, Serializer as _, serialize_map_entry, serialize_part,
+};
 use amqp_value::Value;
 use std::fmt;
 use std::fmt::{Debug, Formatter, Write};
@@ -95,7 +97,7 @@ impl<'a> MapSerializer<'a> {
             (λ _. (has_key self.old ≡ false) × (has_key self.new ≡ true))
             (λ _. has_key self.new ≡ has_key self.old) }
         ensures step { has_key self.old ≡ false →
-            FeedsMap (T.tree key.now) self.old result self.new }
+            SerializesMapPart (T.tree key.now) self.old result self.new }
         ensures misuse_error { has_key self.old ≡ true →
             RefusesInTurn self.old result self.new }
         ensures invalid { has_key self.old ≡ true → IfErr result (λ e. e ≡ InvalidValue) }
@@ -103,7 +105,7 @@ impl<'a> MapSerializer<'a> {
         if self.pending {
             return Err(self.serializer.misuse_error(&mut self.compound));
         }
-        feed_part(&mut *self.serializer, &mut self.compound, key)?;
+        serialize_part(&mut *self.serializer, &mut self.compound, key)?;
         self.pending = true;
         Ok(())
     }
@@ -127,7 +129,7 @@ impl<'a> MapSerializer<'a> {
             (λ _. (has_key self.old ≡ true) × (has_key self.new ≡ false))
             (λ _. has_key self.new ≡ has_key self.old) }
         ensures step { has_key self.old ≡ true →
-            FeedsMap (T.tree value.now) self.old result self.new }
+            SerializesMapPart (T.tree value.now) self.old result self.new }
         ensures misuse_error { has_key self.old ≡ false →
             RefusesInTurn self.old result self.new }
         ensures invalid { has_key self.old ≡ false → IfErr result (λ e. e ≡ InvalidValue) }
@@ -135,7 +137,7 @@ impl<'a> MapSerializer<'a> {
         if !self.pending {
             return Err(self.serializer.misuse_error(&mut self.compound));
         }
-        feed_part(&mut *self.serializer, &mut self.compound, value)?;
+        serialize_part(&mut *self.serializer, &mut self.compound, value)?;
         self.pending = false;
         Ok(())
     }
@@ -161,7 +163,7 @@ impl<'a> MapSerializer<'a> {
             ≡ (map_reference self.old).ghost_name }
         ensures pending { has_key self.new ≡ has_key self.old }
         ensures step { has_key self.old ≡ false →
-            FeedsPair (K.tree key.now) (V.tree value.now) self.old result self.new }
+            SerializesPair (K.tree key.now) (V.tree value.now) self.old result self.new }
         ensures misuse_error { has_key self.old ≡ true →
             IsErr result × RefusesInTurn self.old result self.new }
         ensures invalid { has_key self.old ≡ true → IfErr result (λ e. e ≡ InvalidValue) }
@@ -169,7 +171,7 @@ impl<'a> MapSerializer<'a> {
         if self.pending {
             return Err(self.serializer.misuse_error(&mut self.compound));
         }
-        feed_entry(&mut *self.serializer, &mut self.compound, key, value)
+        serialize_map_entry(&mut *self.serializer, &mut self.compound, key, value)
     }
 
     /// Ends the map and returns its value: the image of the tree of its entries.

@@ -6,12 +6,12 @@ ghost use Rattle.amqp_ser.specs.Tree.{Tree};
 ghost use Rattle.amqp_ser.specs.Compounds.{tree_of_parts};
 ghost use Rattle.amqp_ser.specs.declared.kind.CompoundKind.TheVariants as kind;
 ghost use Rattle.amqp_to_value.specs.ValueSerializer.{ValuePermits};
-ghost use Rattle.amqp_to_value.specs.OpenCompounds.{FeedsList, ListHas, lends_of_list, list_reference};
+ghost use Rattle.amqp_to_value.specs.OpenCompounds.{SerializesListPart, ListHas, lends_of_list, list_reference};
 
 use crate::open_value::OpenValue;
 use crate::serializer::Serializer;
 use amqp_data::Error;
-use amqp_ser::{Compound, CompoundKind, Serialize, Serializer as _, feed_part};
+use amqp_ser::{Compound, CompoundKind, Serialize, Serializer as _, serialize_part};
 use amqp_value::Value;
 use std::fmt;
 use std::fmt::{Debug, Formatter, Write};
@@ -85,9 +85,9 @@ impl<'a> SeqSerializer<'a> {
     pub fn serialize_element<T: Serialize>(&mut self, value: &T) -> Result<(), Error>
         ensures same { (list_reference self.new).ghost_name
             ≡ (list_reference self.old).ghost_name }
-        ensures step { FeedsList (T.tree value.now) self.old result self.new }
+        ensures step { SerializesListPart (T.tree value.now) self.old result self.new }
     {
-        feed_part(&mut *self.serializer, &mut self.compound, value)
+        serialize_part(&mut *self.serializer, &mut self.compound, value)
     }
 
     /// Ends the list and returns its value: the image of the tree of its elements.

@@ -9,8 +9,8 @@ use crate::open_value::OpenValue;
 use crate::serializer::Serializer;
 use amqp_data::Error;
 use amqp_ser::{
-    Compound, CompoundKind, Serialize, Serializer as _, StructEncoding, end_fields, feed_any,
-    is_descriptor_name,
+    Compound, CompoundKind, Serialize, Serializer as _, StructEncoding, end_fields,
+    is_descriptor_name, serialize_any_field,
 };
 use amqp_value::Value;
 use std::fmt;
@@ -58,7 +58,7 @@ impl<'a> StructSerializer<'a> {
     ///
     /// # Example
     /// Without fields, the list is empty.
-    #[tactic(auto, unfolding(amqp_ser::specs::Structs::Stands))]
+    #[tactic(auto, unfolding(amqp_ser::specs::Structs::HasDescribed))]
     #[inline(always)]
     pub fn list(serializer: &'a mut Serializer, _len: usize) -> StructSerializer<'a>
         ensures opened { StructHas serializer.old None CompoundKind.Single result [] }
@@ -84,7 +84,7 @@ impl<'a> StructSerializer<'a> {
     ///
     /// # Example
     /// Without fields, the map is empty.
-    #[tactic(auto, unfolding(amqp_ser::specs::Structs::Stands))]
+    #[tactic(auto, unfolding(amqp_ser::specs::Structs::HasDescribed))]
     #[inline(always)]
     pub fn map(serializer: &'a mut Serializer) -> StructSerializer<'a>
         ensures opened { StructHas serializer.old None CompoundKind.Single result [] }
@@ -110,7 +110,7 @@ impl<'a> StructSerializer<'a> {
     ///
     /// # Example
     /// The one field `x`, the ubyte 1, gives the ubyte 1.
-    #[tactic(auto, unfolding(amqp_ser::specs::Structs::Stands))]
+    #[tactic(auto, unfolding(amqp_ser::specs::Structs::HasDescribed))]
     #[inline(always)]
     pub fn basic(serializer: &'a mut Serializer) -> StructSerializer<'a>
         ensures opened { StructHas serializer.old None CompoundKind.Single result [] }
@@ -169,7 +169,7 @@ impl<'a> StructSerializer<'a> {
             ≡ (struct_reference self.old).ghost_name }
     {
         let descriptor = is_descriptor_name(key);
-        feed_any(
+        serialize_any_field(
             &mut *self.serializer,
             &mut self.compound,
             self.form,

@@ -9,7 +9,7 @@ use crate::serializer::Serializer;
 use amqp_data::Error;
 use amqp_ser::{
     Compound, CompoundKind, Serialize, Serializer as _, StructEncoding, end_fields,
-    feed_tuple_field,
+    serialize_tuple_field,
 };
 use amqp_value::Value;
 use std::fmt;
@@ -58,7 +58,7 @@ impl<'a> TupleStructSerializer<'a> {
     ///
     /// # Example
     /// The ulong 1 and `true` give `true`, described by the code 1.
-    #[tactic(auto, unfolding(amqp_ser::specs::Structs::Stands))]
+    #[tactic(auto, unfolding(amqp_ser::specs::Structs::HasDescribed))]
     #[inline(always)]
     pub fn basic(serializer: &'a mut Serializer) -> TupleStructSerializer<'a>
         ensures opened { TupleStructHas serializer.old None CompoundKind.Single result [] }
@@ -84,7 +84,7 @@ impl<'a> TupleStructSerializer<'a> {
     ///
     /// # Example
     /// The ulong 1 and `true` give the list of `true`, described by the code 1.
-    #[tactic(auto, unfolding(amqp_ser::specs::Structs::Stands))]
+    #[tactic(auto, unfolding(amqp_ser::specs::Structs::HasDescribed))]
     #[inline(always)]
     pub fn list(serializer: &'a mut Serializer, _len: usize) -> TupleStructSerializer<'a>
         ensures opened { TupleStructHas serializer.old None CompoundKind.Single result [] }
@@ -110,7 +110,7 @@ impl<'a> TupleStructSerializer<'a> {
     ///
     /// # Example
     /// The ubyte 1 and `true` give the list of the two.
-    #[tactic(auto, unfolding(amqp_ser::specs::Structs::Stands))]
+    #[tactic(auto, unfolding(amqp_ser::specs::Structs::HasDescribed))]
     #[inline(always)]
     pub fn list_fields(serializer: &'a mut Serializer, _len: usize) -> TupleStructSerializer<'a>
         ensures opened { TupleStructHas serializer.old None CompoundKind.List result [] }
@@ -151,7 +151,7 @@ impl<'a> TupleStructSerializer<'a> {
     ///
     /// # Example
     /// If the descriptor is still to be serialized, the ulong 1 describes the fields that follow.
-    #[tactic(auto, unfolding(amqp_ser::specs::Structs::Stands))]
+    #[tactic(auto, unfolding(amqp_ser::specs::Structs::HasDescribed))]
     #[inline(always)]
     pub fn serialize_field<T: Serialize>(&mut self, value: &T) -> Result<(), Error>
         ensures ok { IfOk result
@@ -165,7 +165,7 @@ impl<'a> TupleStructSerializer<'a> {
         ensures same { (tuple_struct_reference self.new).ghost_name
             ≡ (tuple_struct_reference self.old).ghost_name }
     {
-        feed_tuple_field(
+        serialize_tuple_field(
             &mut *self.serializer,
             &mut self.compound,
             self.single,

@@ -6,12 +6,12 @@ ghost use Rattle.amqp_ser.specs.Tree.{Tree};
 ghost use Rattle.amqp_ser.specs.Compounds.{tree_of_parts};
 ghost use Rattle.amqp_ser.specs.declared.kind.CompoundKind.TheVariants as kind;
 ghost use Rattle.amqp_to_value.specs.ValueSerializer.{ValuePermits};
-ghost use Rattle.amqp_to_value.specs.OpenCompounds.{FeedsVariant, VariantHas, lends_of_variant, variant_reference};
+ghost use Rattle.amqp_to_value.specs.OpenCompounds.{SerializesVariantPart, VariantHas, lends_of_variant, variant_reference};
 
 use crate::open_value::OpenValue;
 use crate::serializer::Serializer;
 use amqp_data::Error;
-use amqp_ser::{Compound, CompoundKind, Serialize, Serializer as _, feed_part};
+use amqp_ser::{Compound, CompoundKind, Serialize, Serializer as _, serialize_part};
 use amqp_value::Value;
 use std::fmt;
 use std::fmt::{Debug, Formatter, Write};
@@ -86,9 +86,9 @@ impl<'a> VariantSerializer<'a> {
     pub fn serialize_field<T: Serialize>(&mut self, value: &T) -> Result<(), Error>
         ensures same { (variant_reference self.new).ghost_name
             ≡ (variant_reference self.old).ghost_name }
-        ensures step { FeedsVariant (T.tree value.now) self.old result self.new }
+        ensures step { SerializesVariantPart (T.tree value.now) self.old result self.new }
     {
-        feed_part(&mut *self.serializer, &mut self.compound, value)
+        serialize_part(&mut *self.serializer, &mut self.compound, value)
     }
 
     /// Ends the variant and returns its value: the image of its tree.

@@ -7,7 +7,7 @@ ghost use Rattle.amqp_data.specs.Pairs.{entries_of};
 ghost use Rattle.amqp_ser.specs.Tree.{scalar, string};
 ghost use Rattle.amqp_value.specs.Contents.{array_in, described_in, list_in, map_in};
 ghost use Rattle.amqp_value.specs.Converts.{IsMapOf};
-ghost use Rattle.amqp_value.specs.Places.{equal, merged};
+ghost use Rattle.amqp_value.specs.KeyPositions.{equal, merged};
 ghost use Rattle.amqp_value.specs.TreeOf.{tree_of};
 
 use crate::Value;

@@ -17,7 +17,7 @@ use std::hash::Hash;
 
 // The number of entries from which on an index costs less than comparing each key with each one
 // before it.
-const MANY: usize = 48;
+const MIN_INDEXED: usize = 48;
 
 /// Converts a `Map`. Inserts its entries in order, each key converted before its value.
 ///
@@ -47,7 +47,7 @@ where
         match value {
             Value::Map(pairs) => {
                 let pairs = pairs.into_inner();
-                if pairs.len() < MANY {
+                if pairs.len() < MIN_INDEXED {
                     return convert_pairs::<K, V, OrderedMap<K, V>>(pairs);
                 }
                 match convert_pairs::<K, V, OrderedMapBuilder<K, V>>(pairs) {

@@ -24,8 +24,8 @@ returns-in-Err-clause-err g c w =
       g.S.Source.value c.in-Some.entry,
       at,
       elim (c.in-Err.ensures.read whole) [
-        | inl m ↦ inl (c.placed.ensures ∙ m)
+        | inl m ↦ inl (c.with_position.ensures ∙ m)
         | inr n ↦ inr n
       ],
-      λ x p e. c.placed.ensures ∙ c.in-Err.ensures.law x p e whole,
+      λ x p e. c.with_position.ensures ∙ c.in-Err.ensures.law x p e whole,
     )

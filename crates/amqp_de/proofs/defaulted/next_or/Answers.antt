@@ -24,8 +24,8 @@ returns-in-Err-clause-err g c w =
       _,
       s.2,
       elim (c.in-Err.ensures.read s.0) [
-        | inl m ↦ inl (c.placed.ensures ∙ m)
+        | inl m ↦ inl (c.with_position.ensures ∙ m)
         | inr n ↦ inr n
       ],
-      λ x p e. c.placed.ensures ∙ c.in-Err.ensures.law x p e s.0,
+      λ x p e. c.with_position.ensures ∙ c.in-Err.ensures.law x p e s.0,
     )

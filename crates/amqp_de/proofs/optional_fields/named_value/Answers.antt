@@ -60,8 +60,8 @@ returns-in-Err-read-clause-err g c w =
       t,
       at,
       elim (c.in-Err-read.ensures.read whole) [
-        | inl m ↦ inl (c.placed.ensures ∙ m)
+        | inl m ↦ inl (c.with_position.ensures ∙ m)
         | inr n ↦ inr (some_refused g.V.Deserialize.reads t other n)
       ],
-      some_memory g.V.Deserialize.image g.V.Deserialize.restorable t other (λ x p e. c.placed.ensures ∙ c.in-Err-read.ensures.law x p e whole),
+      some_memory g.V.Deserialize.image g.V.Deserialize.restorable t other (λ x p e. c.with_position.ensures ∙ c.in-Err-read.ensures.law x p e whole),
     )

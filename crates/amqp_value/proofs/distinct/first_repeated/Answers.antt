@@ -1,6 +1,6 @@
 use Rattle.std.proofs.Common.{◌≡◌, false, take, rules}
 use Rattle.std.specs.List.{list_any}
-use Rattle.amqp_value.specs.Places.{equal}
+use Rattle.amqp_value.specs.KeyPositions.{equal}
 use Rattle.amqp_value.proofs.DistinctLemmas.{merged-new}
 use Rattle.amqp_value.proofs.distinct.first_repeated.Goals as goal
 

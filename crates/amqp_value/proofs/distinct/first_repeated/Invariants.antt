@@ -1,5 +1,5 @@
 use Rattle.std.proofs.Common.{◌≡◌, [], take}
-use Rattle.amqp_value.specs.Places.{equal, merged}
+use Rattle.amqp_value.specs.KeyPositions.{equal, merged}
 use Rattle.amqp_value.proofs.distinct.first_repeated.Given as goal
 
 abbrev pub invariant-loop-i : goal.invariant-loop-i

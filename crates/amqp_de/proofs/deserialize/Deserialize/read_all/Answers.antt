@@ -2,7 +2,7 @@ use Rattle.std.proofs.Common.{rules, ◌≡◌, inl, inr, [], ◌∷◌, ◌++�
 use Rattle.std.proofs.lemmas.List.{append-nil}
 use Rattle.std.proofs.lemmas.Result.{IfOk-weaker, IfErr-weaker}
 use Rattle.amqp_value.proofs.Zips.{zip_push}
-use Rattle.amqp_de.specs.Results.{Reading}
+use Rattle.amqp_de.specs.Results.{ReadsAndRestores}
 use Rattle.amqp_de.proofs.Loops.{all_zip_none, image_at}
 use Rattle.amqp_de.proofs.deserialize.Deserialize.read_all.Goals as goal
 
@@ -26,7 +26,7 @@ pub returns-in-Err-clause-err : goal.returns-in-Err-clause-err
 returns-in-Err-clause-err g c w =
     let s = c.in-Some.ensures.some_whole w in
     elim (c.in-Err.ensures.read s.0) [
-      | inl m ↦ inl (c.placed.ensures ∙ m)
+      | inl m ↦ inl (c.with_position.ensures ∙ m)
       | inr n ↦ inr (λ xs a. all_zip_none g.Self.Deserialize.reads [] _ _ n xs (rw s.2 at a))
     ]
 
@@ -34,7 +34,7 @@ pub returns-in-Err-clause-law : goal.returns-in-Err-clause-law
 returns-in-Err-clause-law g c xs all p w =
     let s = c.in-Some.ensures.some_whole w in
     let (x, some, is) = image_at g.Self.Deserialize.image g.Self.Deserialize.restorable [] _ _ xs (sym s.2 ∙ p) all in
-    c.placed.ensures ∙ c.in-Err.ensures.law x some is s.0
+    c.with_position.ensures ∙ c.in-Err.ensures.law x some is s.0
 
 pub elements-init : goal.elements-init
 elements-init g c =
@@ -73,7 +73,7 @@ returns-in-Err-read-clause-err g c w =
     let s = c.in-Some-next.ensures.some_whole (f w).0 in
     let whole = (f w).1 ∙ ap (λ ts. done ++ ts) s.2 in
     elim (c.in-Err-read.ensures.read s.0) [
-      | inl m ↦ inl (c.placed-in-Err-read.ensures ∙ m)
+      | inl m ↦ inl (c.with_position-in-Err-read.ensures ∙ m)
       | inr n ↦ inr (λ xs a. all_zip_none g.Self.Deserialize.reads done _ _ n xs (rw whole at a))
     ]
 
@@ -82,7 +82,7 @@ returns-in-Err-read-clause-law g c xs all p w =
     let (done, z, h, f) = c.elements.invariant in
     let s = c.in-Some-next.ensures.some_whole (f w).0 in
     let (x, some, is) = image_at g.Self.Deserialize.image g.Self.Deserialize.restorable done _ _ xs (sym ((f w).1 ∙ ap (λ ts. done ++ ts) s.2) ∙ p) all in
-    c.placed-in-Err-read.ensures ∙ c.in-Err-read.ensures.law x some is s.0
+    c.with_position-in-Err-read.ensures ∙ c.in-Err-read.ensures.law x some is s.0
 
 pub elements-preserved : goal.elements-preserved
 elements-preserved g c =
@@ -91,7 +91,7 @@ elements-preserved g c =
     let pushed : c.push.new.self.items ≡ c.elements.values.items ++ c.in-Ok-read.read.0 ∷ [] = search rules in
     rw pushed (
       done ++ t ∷ [],
-      zip_push (Reading g.Self.Deserialize.reads g.Self.Deserialize.image g.Self.Deserialize.restorable g.Self.Deserialize.same) done c.elements.values.items t c.in-Ok-read.read.0 z (c.in-Ok-read.ensures.read.0, c.in-Ok-read.ensures.law),
+      zip_push (ReadsAndRestores g.Self.Deserialize.reads g.Self.Deserialize.image g.Self.Deserialize.restorable g.Self.Deserialize.same) done c.elements.values.items t c.in-Ok-read.read.0 z (c.in-Ok-read.ensures.read.0, c.in-Ok-read.ensures.law),
       λ ts k. rw append_assoc (h (t ∷ ts) (c.in-Some-next.ensures.some c.in-Ok-read.read.1 ts c.in-Ok-read.ensures.read.1 (c.resume-in-elements.ensures.holds ts k))),
       λ w. let s = c.in-Some-next.ensures.some_whole (f w).0 in
           let r = c.resume-in-elements.ensures.whole s.1 in

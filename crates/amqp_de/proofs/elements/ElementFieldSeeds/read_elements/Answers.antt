@@ -15,14 +15,14 @@ pub returns-in-Err-clause-err : goal.returns-in-Err-clause-err
 returns-in-Err-clause-err g c w =
     let s = c.in-Some.ensures.some_whole w in
     elim (c.in-Err.ensures.read s.0) [
-      | inl m ↦ inl (c.placed.ensures ∙ m)
+      | inl m ↦ inl (c.with_position.ensures ∙ m)
       | inr none ↦ inr (required_first [] g.V.Deserialize.reads g.V.Deserialize.image g.V.Deserialize.restorable g.V.Deserialize.same (g.R.FieldSeeds.reads c.args.self.now.rest) g.R.FieldSeeds.images g.R.FieldSeeds.restorable g.R.FieldSeeds.same _ _ _ s.2 none)
     ]
 
 pub returns-in-Err-clause-law : goal.returns-in-Err-clause-law
 returns-in-Err-clause-law g c x p k w =
     let s = c.in-Some.ensures.some_whole w in
-    c.placed.ensures ∙ c.in-Err.ensures.law x.value p.0 (early_first (required (g.V.Deserialize.image x.value)) (g.R.FieldSeeds.images x.rest) _ _ _ s.2 k) s.0
+    c.with_position.ensures ∙ c.in-Err.ensures.law x.value p.0 (early_first (required (g.V.Deserialize.image x.value)) (g.R.FieldSeeds.images x.rest) _ _ _ s.2 k) s.0
 
 pub returns-in-Ok-read_elements-clause-ok : goal.returns-in-Ok-read_elements-clause-ok
 returns-in-Ok-read_elements-clause-ok g c =

@@ -15,14 +15,14 @@ pub returns-in-Err-clause-err : goal.returns-in-Err-clause-err
 returns-in-Err-clause-err g c w =
     let (whole, are, at, after) = c.in-Some.ensures.some_whole w in
     elim (c.in-Err.ensures.read whole) [
-      | inl m ↦ inl (c.placed.ensures ∙ m)
+      | inl m ↦ inl (c.with_position.ensures ∙ m)
       | inr none ↦ inr (named_first c.args.self.now.name.now (g.R.FieldSeeds.names c.args.self.now.rest) g.V.Deserialize.reads g.V.Deserialize.image g.V.Deserialize.restorable g.V.Deserialize.same (g.R.FieldSeeds.reads c.args.self.now.rest) g.R.FieldSeeds.images g.R.FieldSeeds.restorable g.R.FieldSeeds.same _ _ at none)
     ]
 
 pub returns-in-Err-clause-law : goal.returns-in-Err-clause-law
 returns-in-Err-clause-law g c x p d e w =
     let (whole, are, at, after) = c.in-Some.ensures.some_whole w in
-    c.placed.ensures ∙ c.in-Err.ensures.law x.value p.0 (required_at c.args.self.now.name.now (g.R.FieldSeeds.names c.args.self.now.rest) g.V.Deserialize.reads g.V.Deserialize.image g.V.Deserialize.restorable g.V.Deserialize.same (g.R.FieldSeeds.reads c.args.self.now.rest) g.R.FieldSeeds.images g.R.FieldSeeds.restorable g.R.FieldSeeds.same _ _ (g.R.FieldSeeds.images x.rest) (g.V.Deserialize.image x.value) e at) whole
+    c.with_position.ensures ∙ c.in-Err.ensures.law x.value p.0 (required_at c.args.self.now.name.now (g.R.FieldSeeds.names c.args.self.now.rest) g.V.Deserialize.reads g.V.Deserialize.image g.V.Deserialize.restorable g.V.Deserialize.same (g.R.FieldSeeds.reads c.args.self.now.rest) g.R.FieldSeeds.images g.R.FieldSeeds.restorable g.R.FieldSeeds.same _ _ (g.R.FieldSeeds.images x.rest) (g.V.Deserialize.image x.value) e at) whole
 
 pub returns-in-Ok-read_entries-clause-ok : goal.returns-in-Ok-read_entries-clause-ok
 returns-in-Ok-read_entries-clause-ok g c =

@@ -3,7 +3,7 @@ use Rattle.std.proofs.lemmas.List.{append-nil}
 use Rattle.amqp_ser.specs.Tree.{Tree}
 use Rattle.amqp_value.proofs.Zips.{zip_push}
 use Rattle.amqp_de.specs.Maps.{ReadsPair, pair_image, IsPair}
-use Rattle.amqp_de.specs.Results.{Reading}
+use Rattle.amqp_de.specs.Results.{ReadsAndRestores}
 use Rattle.amqp_de.proofs.Loops.{all_zip_none, image_at}
 use Rattle.amqp_de.proofs.impls.maps.read_entries.Goals as goal
 
@@ -25,7 +25,7 @@ returns-in-Err-read-clause-err g c w =
     let s = c.in-Some.ensures.some_whole (f w).0 in
     let whole = (f w).1 ∙ ap (λ ps. done ++ ps) s.2 in
     elim (c.in-Err-read.ensures.read s.0) [
-      | inl m ↦ inl (c.placed.ensures ∙ m)
+      | inl m ↦ inl (c.with_position.ensures ∙ m)
       | inr n ↦ inr (λ xs a. all_zip_none (ReadsPair g.K.Deserialize.reads g.V.Deserialize.reads) done _ _ (λ p r. n p.0 r.0) xs (rw whole at a))
     ]
 
@@ -34,7 +34,7 @@ returns-in-Err-read-clause-law g c xs all p w =
     let (done, z, h, f) = c.entries.invariant in
     let s = c.in-Some.ensures.some_whole (f w).0 in
     let (x, some, is) = image_at (pair_image g.K.Deserialize.image g.V.Deserialize.image) (IsPair g.K.Deserialize.restorable g.V.Deserialize.restorable) done _ _ xs (sym ((f w).1 ∙ ap (λ ps. done ++ ps) s.2) ∙ p) all in
-    c.placed.ensures ∙ c.in-Err-read.ensures.law x.0 some.0 (ap (λ (q : Tree × Tree). q.0) is) s.0
+    c.with_position.ensures ∙ c.in-Err-read.ensures.law x.0 some.0 (ap (λ (q : Tree × Tree). q.0) is) s.0
 
 pub returns-in-Err-value_after-clause-err : goal.returns-in-Err-value_after-clause-err
 returns-in-Err-value_after-clause-err g c w =
@@ -53,7 +53,7 @@ returns-in-Err-read-2-clause-err g c w =
     let (sure, are, is, rest) = c.in-Ok-value_after.ensures.whole s.1 in
     let whole = (f w).1 ∙ ap (λ ps. done ++ ps) s.2 in
     elim (c.in-Err-read-2.ensures.read sure) [
-      | inl m ↦ inl (c.placed-in-Err-read-2.ensures ∙ m)
+      | inl m ↦ inl (c.with_position-in-Err-read-2.ensures ∙ m)
       | inr n ↦ inr (λ xs a. all_zip_none (ReadsPair g.K.Deserialize.reads g.V.Deserialize.reads) done _ _ (λ p r. n p.1 (subst (λ t. g.V.Deserialize.reads t p.1) (sym is) r.1)) xs (rw whole at a))
     ]
 
@@ -63,7 +63,7 @@ returns-in-Err-read-2-clause-law g c xs all p w =
     let s = c.in-Some.ensures.some_whole (f w).0 in
     let (sure, are, same, rest) = c.in-Ok-value_after.ensures.whole s.1 in
     let (x, some, is) = image_at (pair_image g.K.Deserialize.image g.V.Deserialize.image) (IsPair g.K.Deserialize.restorable g.V.Deserialize.restorable) done _ _ xs (sym ((f w).1 ∙ ap (λ ps. done ++ ps) s.2) ∙ p) all in
-    c.placed-in-Err-read-2.ensures ∙ c.in-Err-read-2.ensures.law x.1 some.1 (same ∙ ap (λ (q : Tree × Tree). q.1) is) sure
+    c.with_position-in-Err-read-2.ensures ∙ c.in-Err-read-2.ensures.law x.1 some.1 (same ∙ ap (λ (q : Tree × Tree). q.1) is) sure
 
 pub entries-preserved : goal.entries-preserved
 entries-preserved g c =
@@ -76,7 +76,7 @@ entries-preserved g c =
     let pushed : c.push.new.self.items ≡ c.entries.items.items ++ (c.in-Ok-read.read.0, c.in-Ok-read-2.read.0) ∷ [] = search rules in
     rw pushed (
       done ++ e ∷ [],
-      zip_push (ReadsPair (Reading K.reads K.image K.restorable K.same) (Reading V.reads V.image V.restorable V.same)) done c.entries.items.items e (c.in-Ok-read.read.0, c.in-Ok-read-2.read.0) z
+      zip_push (ReadsPair (ReadsAndRestores K.reads K.image K.restorable K.same) (ReadsAndRestores V.reads V.image V.restorable V.same)) done c.entries.items.items e (c.in-Ok-read.read.0, c.in-Ok-read-2.read.0) z
           ((c.in-Ok-read.ensures.read.0, c.in-Ok-read.ensures.law), (c.in-Ok-read-2.ensures.read.0, c.in-Ok-read-2.ensures.law)),
       λ ps held. rw append_assoc (h (e ∷ ps) (c.in-Some.ensures.some c.in-Ok-read.read.1 v ps c.in-Ok-read.ensures.read.1
           (c.in-Ok-value_after.ensures.ok c.in-Ok-read-2.read.1 ps c.in-Ok-read-2.ensures.read.1 (c.resume_entries.ensures.holds ps held)))),

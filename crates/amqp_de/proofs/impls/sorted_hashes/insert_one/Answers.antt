@@ -13,8 +13,8 @@ returns-in-Some-clause-inserted g c =
     let found : Some c.in-Some.at ≡ position (λ x. eq c.args.key x.0) es = sym c.in-Some.is ∙ c.find.ensures ∙ ap (position (λ x. eq c.args.key x.0)) c.deref.ensures.value in
     ap (λ v. slice_set es c.in-Some.at (e.0, v)) c.replace.ensures.after ∙ insert_found eq c.args.key es c.args.value c.in-Some.at e found c.index_mut.ensures.value
 
-pub returns-in-Some-clause-placed : goal.returns-in-Some-clause-placed
-returns-in-Some-clause-placed g c =
+pub returns-in-Some-clause-with_position : goal.returns-in-Some-clause-with_position
+returns-in-Some-clause-with_position g c =
     placed_kept g.K.PartialEq.eq g.K.Hash.hash_input c.args.places.now c.args.entries.now.items c.requires c.in-Some.at c.index_mut.result.now c.replace.new.dest c.index_mut.ensures.value
 
 -- The entry has been appended.
@@ -24,8 +24,8 @@ returns-in_ok-push-in-None-clause-inserted g c =
     let none : None ≡ position (λ x. eq c.args.key x.0) c.args.entries.now.items = sym c.in-None.is ∙ c.find.ensures ∙ ap (position (λ x. eq c.args.key x.0)) c.deref.ensures.value in
     c.in_ok-push-in-None.ensures.items ∙ insert_new eq c.args.key c.args.entries.now.items c.args.value none
 
-pub returns-in_ok-push-in-None-clause-placed : goal.returns-in_ok-push-in-None-clause-placed
-returns-in_ok-push-in-None-clause-placed g c =
+pub returns-in_ok-push-in-None-clause-with_position : goal.returns-in_ok-push-in-None-clause-with_position
+returns-in_ok-push-in-None-clause-with_position g c =
     let eq = g.K.PartialEq.eq in
     let input = g.K.Hash.hash_input in
     let es = c.args.entries.now.items in

@@ -1,7 +1,7 @@
 use Rattle.std.proofs.Common.{[], sym, subst}
 use Rattle.std.specs.Map.{keys_of}
 use Rattle.amqp_data.specs.Pairs.{AreDistinct}
-use Rattle.amqp_value.specs.Places.{equal}
+use Rattle.amqp_value.specs.KeyPositions.{equal}
 use Rattle.amqp_value.proofs.ValueKeys.{merged-distinct}
 use Rattle.amqp_value.proofs.from.containers.inserted.Goals as goal
 

@@ -4,7 +4,7 @@ use Rattle.amqp_data.specs.Pairs.{AreDistinct}
 use Rattle.amqp_ser.specs.Tree.{map}
 use Rattle.amqp_value.specs.TreeOf.{pairs_trees}
 use Rattle.amqp_value.proofs.TreeLemmas.{tree_of-Map}
-use Rattle.amqp_value.specs.Places.{equal}
+use Rattle.amqp_value.specs.KeyPositions.{equal}
 use Rattle.amqp_value.proofs.ValueKeys.{merged_inserted, merged-distinct}
 use Rattle.amqp_value.proofs.map_builder.MapBuilder.into_value.Goals as goal
 
