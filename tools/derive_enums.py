@@ -30,10 +30,10 @@ def alternative(at, value, is_rest=False):
     """The pattern of the alternative at a place, or of those after the first ones, and the same as a term."""
     if at > 10 or at == 10 and not is_rest:
         inner = alternative(at - 10, value, is_rest)
-        return f"{N.place}!(rest 10, {inner[0]})", f"rest10 ({inner[1]})"
+        return f"{N.alternative}!(rest 10, {inner[0]})", f"rest10 ({inner[1]})"
     if is_rest:
-        return f"{N.place}!(rest {at}, {value})", f"rest{at} {value}"
-    return f"{N.place}!({at}, {value})", f"{ORDINALS[at]} {value}"
+        return f"{N.alternative}!(rest {at}, {value})", f"rest{at} {value}"
+    return f"{N.alternative}!({at}, {value})", f"{ORDINALS[at]} {value}"
 
 
 def enum_record(t, arms):

@@ -9,7 +9,7 @@ use super::{
 };
 use serde_amqp::derive::{
     Either, Fault, Global, OneOfTypes, PhantomData, Readable, Record, RoundTripReadable, Serialize,
-    Serializer, Shape, ShapeTree, Source, parts_return, place, read_shaped,
+    Serializer, Shape, ShapeTree, Source, alternative, parts_return, read_shaped,
 };
 
 type SectionTypes = Either<Header, Either<DeliveryAnnotations, SectionTypes2>>;
@@ -42,16 +42,16 @@ impl Record for Section {
 
     fn from_parts(values: <SectionShape as Shape>::Value) -> Section {
         match values {
-            place!(0, value) => Section::Header(value),
-            place!(1, value) => Section::DeliveryAnnotations(value),
-            place!(2, value) => Section::MessageAnnotations(value),
-            place!(3, value) => Section::Properties(value),
-            place!(4, value) => Section::ApplicationProperties(value),
-            place!(5, value) => Section::Data(value),
-            place!(6, value) => Section::AmqpSequence(value),
-            place!(7, value) => Section::AmqpValue(value),
-            place!(8, value) => Section::Footer(value),
-            place!(rest 9, value) => Section::Other(value),
+            alternative!(0, value) => Section::Header(value),
+            alternative!(1, value) => Section::DeliveryAnnotations(value),
+            alternative!(2, value) => Section::MessageAnnotations(value),
+            alternative!(3, value) => Section::Properties(value),
+            alternative!(4, value) => Section::ApplicationProperties(value),
+            alternative!(5, value) => Section::Data(value),
+            alternative!(6, value) => Section::AmqpSequence(value),
+            alternative!(7, value) => Section::AmqpValue(value),
+            alternative!(8, value) => Section::Footer(value),
+            alternative!(rest 9, value) => Section::Other(value),
         }
     }
 }

@@ -11,7 +11,7 @@ use super::{
 use serde_amqp::derive::{
     Composite, Either, Fault, Global, ListOf, OneOfTypes, Optional, PhantomData, Readable, Record,
     Required, RoundTripComposite, RoundTripReadable, Serialize, SerializeCompounds, Serializer,
-    Shape, ShapeTree, Source, built, composite_returns, fields, named, parts_return, place,
+    Shape, ShapeTree, Source, alternative, built, composite_returns, fields, named, parts_return,
     read_shaped,
 };
 
@@ -37,12 +37,12 @@ impl Record for Outcome {
 
     fn from_parts(values: <OutcomeShape as Shape>::Value) -> Outcome {
         match values {
-            place!(0, value) => Outcome::Accepted(value),
-            place!(1, value) => Outcome::Rejected(value),
-            place!(2, value) => Outcome::Released(value),
-            place!(3, value) => Outcome::Modified(value),
-            place!(4, value) => Outcome::Declared(value),
-            place!(rest 5, value) => Outcome::Other(value),
+            alternative!(0, value) => Outcome::Accepted(value),
+            alternative!(1, value) => Outcome::Rejected(value),
+            alternative!(2, value) => Outcome::Released(value),
+            alternative!(3, value) => Outcome::Modified(value),
+            alternative!(4, value) => Outcome::Declared(value),
+            alternative!(rest 5, value) => Outcome::Other(value),
         }
     }
 }
@@ -171,14 +171,14 @@ impl Record for DeliveryState {
 
     fn from_parts(values: <DeliveryStateShape as Shape>::Value) -> DeliveryState {
         match values {
-            place!(0, value) => DeliveryState::Received(value),
-            place!(1, value) => DeliveryState::Accepted(value),
-            place!(2, value) => DeliveryState::Rejected(value),
-            place!(3, value) => DeliveryState::Released(value),
-            place!(4, value) => DeliveryState::Modified(value),
-            place!(5, value) => DeliveryState::Declared(value),
-            place!(6, value) => DeliveryState::TransactionalState(value),
-            place!(rest 7, value) => DeliveryState::Other(value),
+            alternative!(0, value) => DeliveryState::Received(value),
+            alternative!(1, value) => DeliveryState::Accepted(value),
+            alternative!(2, value) => DeliveryState::Rejected(value),
+            alternative!(3, value) => DeliveryState::Released(value),
+            alternative!(4, value) => DeliveryState::Modified(value),
+            alternative!(5, value) => DeliveryState::Declared(value),
+            alternative!(6, value) => DeliveryState::TransactionalState(value),
+            alternative!(rest 7, value) => DeliveryState::Other(value),
         }
     }
 }

@@ -8,8 +8,8 @@ use super::{AnyTarget, Coordinator, Multiple, Symbol, Target, TxnCapability};
 use serde_amqp::derive::{
     Composite, Either, Fault, Global, ListOf, Name, Never, OneOfTypes, Optional, PhantomData,
     Readable, Record, RoundTripComposite, RoundTripReadable, Serialize, SerializeCompounds,
-    Serializer, Shape, ShapeTree, Source, ValueKind, built, composite_returns, fields, named,
-    parts_return, place, read_shaped, read_symbol,
+    Serializer, Shape, ShapeTree, Source, ValueKind, alternative, built, composite_returns, fields,
+    named, parts_return, read_shaped, read_symbol,
 };
 
 type CoordinatorFields = Optional<Multiple<Symbol>, ()>;
@@ -141,9 +141,9 @@ impl Record for AnyTarget {
 
     fn from_parts(values: <AnyTargetShape as Shape>::Value) -> AnyTarget {
         match values {
-            place!(0, value) => AnyTarget::Target(value),
-            place!(1, value) => AnyTarget::Coordinator(value),
-            place!(rest 2, never) => match never {},
+            alternative!(0, value) => AnyTarget::Target(value),
+            alternative!(1, value) => AnyTarget::Coordinator(value),
+            alternative!(rest 2, never) => match never {},
         }
     }
 }

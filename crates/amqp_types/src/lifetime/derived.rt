@@ -10,7 +10,7 @@ use super::{
 use serde_amqp::derive::{
     Composite, Either, Fault, Global, ListOf, Never, OneOfTypes, PhantomData, Readable, Record,
     RoundTripComposite, RoundTripReadable, Serialize, SerializeCompounds, Serializer, Shape,
-    ShapeTree, Source, built, composite_returns, fields, parts_return, place, read_shaped,
+    ShapeTree, Source, alternative, built, composite_returns, fields, parts_return, read_shaped,
 };
 
 type DeleteOnCloseShape = ListOf<()>;
@@ -223,11 +223,11 @@ impl Record for LifetimePolicy {
 
     fn from_parts(values: <LifetimePolicyShape as Shape>::Value) -> LifetimePolicy {
         match values {
-            place!(0, value) => LifetimePolicy::DeleteOnClose(value),
-            place!(1, value) => LifetimePolicy::DeleteOnNoLinks(value),
-            place!(2, value) => LifetimePolicy::DeleteOnNoMessages(value),
-            place!(3, value) => LifetimePolicy::DeleteOnNoLinksOrMessages(value),
-            place!(rest 4, never) => match never {},
+            alternative!(0, value) => LifetimePolicy::DeleteOnClose(value),
+            alternative!(1, value) => LifetimePolicy::DeleteOnNoLinks(value),
+            alternative!(2, value) => LifetimePolicy::DeleteOnNoMessages(value),
+            alternative!(3, value) => LifetimePolicy::DeleteOnNoLinksOrMessages(value),
+            alternative!(rest 4, never) => match never {},
         }
     }
 }

@@ -8,7 +8,7 @@ use super::{
 };
 use serde_amqp::derive::{
     Either, Fault, Global, OneOfTypes, PhantomData, Readable, Record, RoundTripReadable, Serialize,
-    Serializer, Shape, ShapeTree, Source, parts_return, place, read_shaped,
+    Serializer, Shape, ShapeTree, Source, alternative, parts_return, read_shaped,
 };
 
 type PerformativeTypes = Either<Open, Either<Begin, Either<Attach, PerformativeTypes2>>>;
@@ -39,16 +39,16 @@ impl Record for Performative {
 
     fn from_parts(values: <PerformativeShape as Shape>::Value) -> Performative {
         match values {
-            place!(0, value) => Performative::Open(value),
-            place!(1, value) => Performative::Begin(value),
-            place!(2, value) => Performative::Attach(value),
-            place!(3, value) => Performative::Flow(value),
-            place!(4, value) => Performative::Transfer(value),
-            place!(5, value) => Performative::Disposition(value),
-            place!(6, value) => Performative::Detach(value),
-            place!(7, value) => Performative::End(value),
-            place!(8, value) => Performative::Close(value),
-            place!(rest 9, value) => Performative::Other(value),
+            alternative!(0, value) => Performative::Open(value),
+            alternative!(1, value) => Performative::Begin(value),
+            alternative!(2, value) => Performative::Attach(value),
+            alternative!(3, value) => Performative::Flow(value),
+            alternative!(4, value) => Performative::Transfer(value),
+            alternative!(5, value) => Performative::Disposition(value),
+            alternative!(6, value) => Performative::Detach(value),
+            alternative!(7, value) => Performative::End(value),
+            alternative!(8, value) => Performative::Close(value),
+            alternative!(rest 9, value) => Performative::Other(value),
         }
     }
 }

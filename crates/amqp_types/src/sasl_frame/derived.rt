@@ -8,7 +8,7 @@ use super::{
 };
 use serde_amqp::derive::{
     Either, Fault, Global, OneOfTypes, PhantomData, Readable, Record, RoundTripReadable, Serialize,
-    Serializer, Shape, ShapeTree, Source, parts_return, place, read_shaped,
+    Serializer, Shape, ShapeTree, Source, alternative, parts_return, read_shaped,
 };
 
 type SaslFrameTypes = Either<SaslMechanisms, Either<SaslInit, SaslFrameTypes2>>;
@@ -35,12 +35,12 @@ impl Record for SaslFrame {
 
     fn from_parts(values: <SaslFrameShape as Shape>::Value) -> SaslFrame {
         match values {
-            place!(0, value) => SaslFrame::SaslMechanisms(value),
-            place!(1, value) => SaslFrame::SaslInit(value),
-            place!(2, value) => SaslFrame::SaslChallenge(value),
-            place!(3, value) => SaslFrame::SaslResponse(value),
-            place!(4, value) => SaslFrame::SaslOutcome(value),
-            place!(rest 5, value) => SaslFrame::Other(value),
+            alternative!(0, value) => SaslFrame::SaslMechanisms(value),
+            alternative!(1, value) => SaslFrame::SaslInit(value),
+            alternative!(2, value) => SaslFrame::SaslChallenge(value),
+            alternative!(3, value) => SaslFrame::SaslResponse(value),
+            alternative!(4, value) => SaslFrame::SaslOutcome(value),
+            alternative!(rest 5, value) => SaslFrame::Other(value),
         }
     }
 }
