@@ -4,11 +4,13 @@ use Rattle.amqp_ser.specs.Tree as tree
 use Rattle.amqp_ser.specs.Tree.{Tree, Trees, Pairs, Scalar, trees_of}
 use Rattle.amqp_value.specs.TreeOf.{pairs_of}
 use Rattle.amqp_de.specs.Fields.{FieldSource, by_position, by_name, OnFields, OnEntries, OnNamed}
+use Rattle.amqp_de.specs.Maps.{OnMap}
 use Rattle.amqp_de.specs.Present.{IsImage, all_images, short_list, short_map}
 use Rattle.amqp_de.specs.Forms.{form_of, form_of_scalar, Looks}
+use Rattle.amqp_de.specs.Reads.{OnList}
 use Rattle.amqp_de.specs.declared.form.Form.{Form}
 use Rattle.amqp_de.specs.declared.form.Form.TheVariants as form
-use Rattle.amqp_de.proofs.Lists.{list_of_trees, is_fields, is_entries}
+use Rattle.amqp_de.proofs.Lists.{list_of_trees, is_list, is_map}
 
 scalar_form : (s : Scalar) → (form_of_scalar s ≡ form.Uint) ⊎ (form_of_scalar s ≡ form.Other)
 scalar_form tree.null = inr refl
@@ -70,10 +72,10 @@ module _ (K : FieldSource → Type 0) (t : Tree) where
   -- What is read from a list as fields is read from a list, an array or a map, and the other way round if it is a list.
   pub fields_named : OnFields K t → OnNamed K t
   unfolding OnNamed
-  fields_named h = let (ts, is, k) = is_fields K t h in rw is k
+  fields_named h = let (ts, is, k) = is_list _ t h in rw is k
 
   pub named_fields : (ts : Trees) → t ≡ tree.list ts → OnNamed K t → OnFields K t
-  unfolding OnNamed OnFields
+  unfolding OnNamed OnList
   named_fields ts is h = let k : OnNamed K (tree.list ts) = subst (OnNamed K) is h in rw is k
 
   pub to_array_fields : (ts : List Tree) → t ≡ tree.array (trees_of ts) → K (by_position ts) → OnNamed K t
@@ -87,10 +89,10 @@ module _ (K : FieldSource → Type 0) (t : Tree) where
   -- The same for a map.
   pub entries_named : OnEntries K t → OnNamed K t
   unfolding OnNamed
-  entries_named h = let (ps, is, k) = is_entries K t h in rw is k
+  entries_named h = let (ps, is, k) = is_map _ t h in rw is k
 
   pub named_entries : (ps : Pairs) → t ≡ tree.map ps → OnNamed K t → OnEntries K t
-  unfolding OnNamed OnEntries
+  unfolding OnNamed OnMap
   named_entries ps is h = let k : OnNamed K (tree.map ps) = subst (OnNamed K) is h in rw is k
 
 -- Fields are read from a list, an array or a map alone.

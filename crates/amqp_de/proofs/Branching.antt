@@ -1,41 +1,33 @@
 -- Enums whose descriptor selects the variant.
-use Rattle.std.proofs.Common.{◌≡◌, refl, sym, ◌∙◌, subst}
+use Rattle.std.proofs.Common.{◌≡◌, refl, subst}
 use Rattle.amqp_ser.specs.Tree as tree
 use Rattle.amqp_ser.specs.Tree.{Descriptor, Tree}
-use Rattle.amqp_de.specs.Branches.{IsBranch, OnBranches, either, RestorableBranch, SameEither}
+use Rattle.amqp_de.specs.Branches.{IsAlternative, OnBranches, either, RestorableApart}
 use Rattle.amqp_de.specs.declared.branches.Either.{Either}
 use Rattle.amqp_de.specs.declared.branches.Either.TheVariants.{This, Other}
 
-module _ {A R : Type 0} (w : Descriptor) (P : Tree → A → Type 0) (Q : Descriptor → Tree → R → Type 0) (d : Descriptor) (t : Tree) where
-  pub this_refused : d ≡ w → ((x : A) → ¬ P t x) → (y : Either A R) → ¬ IsBranch w P Q d t y
-  this_refused e none (This x) h = none x h.1
-  this_refused e none (Other y) h = h.0 e
+module _ {A R : Type 0} (Is : Descriptor → Type 0) (P : Tree → A → Type 0) (Q : Descriptor → Tree → R → Type 0) (d : Descriptor) (t : Tree) where
+  pub this_refused : Is d → ((x : A) → ¬ P t x) → (y : Either A R) → ¬ IsAlternative Is P Q d t y
+  this_refused is none (This x) h = none x h.1
+  this_refused is none (Other y) h = h.0 is
 
-  pub other_refused : (¬ (d ≡ w)) → ((y : R) → ¬ Q d t y) → (z : Either A R) → ¬ IsBranch w P Q d t z
+  pub other_refused : (¬ Is d) → ((y : R) → ¬ Q d t y) → (z : Either A R) → ¬ IsAlternative Is P Q d t z
   other_refused n none (This x) h = n h.0
   other_refused n none (Other y) h = none y h.1
 
-module _ {A R : Type 0} (w : Descriptor) (label : R → Descriptor) (imageA : A → Tree) (imageR : R → Tree) (PA : A → Type 0) (PR : R → Type 0) (d : Descriptor) (t : Tree) where
-  pub this_memory : {M : Type 0} → d ≡ w → ((a : A) → PA a → t ≡ imageA a → M) → (x : Either A R) → RestorableBranch w label PA PR x
-      → d ≡ either (λ _. w) label x → t ≡ either imageA imageR x → M
-  this_memory is law (This a) p e f = law a p f
-  this_memory is law (Other b) p e f = absurd (p.0 (sym e ∙ is))
+-- What holds for all restorable values of the first variant, or of those after it, with this descriptor and this image holds for
+-- all restorable values.
+module _ {A R : Type 0} (Apart : R → Type 0) (label : Either A R → Descriptor) (imageA : A → Tree) (imageR : R → Tree) (PA : A → Type 0) (PR : R → Type 0) (d : Descriptor) (t : Tree)
+    (M : Either A R → Type 0) where
+  pub from_this : ((b : R) → Apart b → ¬ (d ≡ label (Other b))) → ((a : A) → PA a → t ≡ imageA a → M (This a)) → (x : Either A R) → RestorableApart Apart PA PR x
+      → d ≡ label x → t ≡ either imageA imageR x → M x
+  from_this apart law (This a) p e f = law a p f
+  from_this apart law (Other b) p e f = absurd (apart b p.0 e)
 
-  pub other_memory : {M : Type 0} → (¬ (d ≡ w)) → ((b : R) → PR b → d ≡ label b → t ≡ imageR b → M) → (x : Either A R) → RestorableBranch w label PA PR x
-      → d ≡ either (λ _. w) label x → t ≡ either imageA imageR x → M
-  other_memory n law (This a) p e f = absurd (n e)
-  other_memory n law (Other b) p e f = law b p.1 e f
-
-  module _ (S : A → A → Type 0) (T : R → R → Type 0) where
-    pub this_same : (y : A) → d ≡ w → ((a : A) → PA a → t ≡ imageA a → S y a) → (x : Either A R) → RestorableBranch w label PA PR x
-        → d ≡ either (λ _. w) label x → t ≡ either imageA imageR x → SameEither S T (This y) x
-    this_same y is law (This a) p e f = law a p f
-    this_same y is law (Other b) p e f = absurd (p.0 (sym e ∙ is))
-
-    pub other_same : (y : R) → (¬ (d ≡ w)) → ((b : R) → PR b → d ≡ label b → t ≡ imageR b → T y b) → (x : Either A R) → RestorableBranch w label PA PR x
-        → d ≡ either (λ _. w) label x → t ≡ either imageA imageR x → SameEither S T (Other y) x
-    other_same y n law (This a) p e f = absurd (n e)
-    other_same y n law (Other b) p e f = law b p.1 e f
+  pub from_other : ((a : A) → ¬ (d ≡ label (This a))) → ((b : R) → PR b → d ≡ label (Other b) → t ≡ imageR b → M (Other b)) → (x : Either A R) → RestorableApart Apart PA PR x
+      → d ≡ label x → t ≡ either imageA imageR x → M x
+  from_other apart law (This a) p e f = absurd (apart a e)
+  from_other apart law (Other b) p e f = law b p.1 e f
 
 module _ {V : Type 0} (K : Descriptor → Tree → V → Type 0) (t : Tree) (x : V) where
   pub is_branches : OnBranches K t x → (d : Descriptor) × (u : Tree) × (t ≡ tree.described d u) × K d u x

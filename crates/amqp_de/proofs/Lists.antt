@@ -5,7 +5,7 @@ use Rattle.std.specs.Prelude.{◌↔◌}
 use Rattle.amqp_ser.specs.Tree as tree
 use Rattle.amqp_ser.specs.Tree.{Tree, Trees, Pairs, Descriptor, trees_of}
 use Rattle.amqp_value.specs.TreeOf.{pairs_of}
-use Rattle.amqp_de.specs.Fields.{FieldSource, by_position, by_name, OnFields, OnEntries, OnDescribed}
+use Rattle.amqp_de.specs.Fields.{OnDescribed}
 use Rattle.amqp_de.specs.Maps.{OnMap}
 use Rattle.amqp_de.specs.Reads.{OnList, OnArray}
 use Rattle.amqp_de.specs.Results.{Reading}
@@ -69,28 +69,6 @@ is_map K (tree.variant i u) h = absurd h
 is_map K (tree.lazy bs) h = absurd h
 is_map K (tree.transparent ts) h = absurd h
 
-pub is_fields : (K : FieldSource → Type 0) (t : Tree) → OnFields K t → (ts : Trees) × (t ≡ tree.list ts) × K (by_position (elements_in ts))
-unfolding OnFields
-is_fields K (tree.list ts) h = (ts, refl, h)
-is_fields K (tree.scalar s) h = absurd h
-is_fields K (tree.array ts) h = absurd h
-is_fields K (tree.map ps) h = absurd h
-is_fields K (tree.described d u) h = absurd h
-is_fields K (tree.variant i u) h = absurd h
-is_fields K (tree.lazy bs) h = absurd h
-is_fields K (tree.transparent ts) h = absurd h
-
-pub is_entries : (K : FieldSource → Type 0) (t : Tree) → OnEntries K t → (ps : Pairs) × (t ≡ tree.map ps) × K (by_name (entries_in ps))
-unfolding OnEntries
-is_entries K (tree.map ps) h = (ps, refl, h)
-is_entries K (tree.scalar s) h = absurd h
-is_entries K (tree.list ts) h = absurd h
-is_entries K (tree.array ts) h = absurd h
-is_entries K (tree.described d u) h = absurd h
-is_entries K (tree.variant i u) h = absurd h
-is_entries K (tree.lazy bs) h = absurd h
-is_entries K (tree.transparent ts) h = absurd h
-
 pub is_described : (d : Descriptor) (K : Tree → Type 0) (t : Tree) → OnDescribed d K t → (u : Tree) × (t ≡ tree.described d u) × K u
 unfolding OnDescribed
 is_described d K (tree.described e u) h = (u, subst (λ f. tree.described e u ≡ tree.described f u) h.0 refl, h.1)
@@ -128,23 +106,6 @@ module _ (K : List (Tree × Tree) → Type 0) (t : Tree) (ps : List (Tree × Tre
   pub of_map : t ≡ tree.map (pairs_of ps) → OnMap K t → K ps
   unfolding OnMap
   of_map e h = let k : OnMap K (tree.map (pairs_of ps)) = subst (OnMap K) e h in subst K (entries_in_pairs ps) k
-
-module _ (K : FieldSource → Type 0) (t : Tree) where
-  pub to_fields : (ts : List Tree) → t ≡ tree.list (trees_of ts) → K (by_position ts) → OnFields K t
-  unfolding OnFields
-  to_fields ts e k = rw e (subst (λ us. K (by_position us)) (sym (list_of_trees ts)) k)
-
-  pub of_fields : (ts : List Tree) → t ≡ tree.list (trees_of ts) → OnFields K t → K (by_position ts)
-  unfolding OnFields
-  of_fields ts e h = let k : OnFields K (tree.list (trees_of ts)) = subst (OnFields K) e h in subst (λ us. K (by_position us)) (list_of_trees ts) k
-
-  pub to_entries : (ps : List (Tree × Tree)) → t ≡ tree.map (pairs_of ps) → K (by_name ps) → OnEntries K t
-  unfolding OnEntries
-  to_entries ps e k = rw e (subst (λ qs. K (by_name qs)) (sym (entries_in_pairs ps)) k)
-
-  pub of_entries : (ps : List (Tree × Tree)) → t ≡ tree.map (pairs_of ps) → OnEntries K t → K (by_name ps)
-  unfolding OnEntries
-  of_entries ps e h = let k : OnEntries K (tree.map (pairs_of ps)) = subst (OnEntries K) e h in subst (λ qs. K (by_name qs)) (entries_in_pairs ps) k
 
 module _ (d : Descriptor) (K : Tree → Type 0) (t u : Tree) where
   pub to_described : (e : Descriptor) → t ≡ tree.described e u → e ≡ d → K u → OnDescribed d K t

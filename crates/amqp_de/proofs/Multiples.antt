@@ -9,17 +9,10 @@ use Rattle.amqp_ser.specs.Tree as tree
 use Rattle.amqp_ser.specs.Tree.{Tree, trees_of}
 use Rattle.amqp_de.specs.Multiple.{is_array_tree, ReadsMultiple, multiple_image, RestorableMultiple}
 use Rattle.amqp_de.specs.Reads.{OnArray}
+use Rattle.amqp_de.proofs.Lists.{is_array}
 
 pub array_is : (K : List Tree → Type 0) (t : Tree) → OnArray K t → is_array_tree t ≡ true
-unfolding OnArray
-array_is K (tree.array ts) k = refl
-array_is K (tree.scalar s) k = absurd k
-array_is K (tree.list ts) k = absurd k
-array_is K (tree.map ps) k = absurd k
-array_is K (tree.described d t) k = absurd k
-array_is K (tree.variant i t) k = absurd k
-array_is K (tree.transparent ts) k = absurd k
-array_is K (tree.lazy bs) k = absurd k
+array_is K t k = let (ts, is, all) = is_array K t k in ap is_array_tree is
 
 module _ {T : Type 0} (R : Tree → T → Type 0) (t : Tree) where
   pub many_refused : is_array_tree t ≡ true → ((xs : Array T) → ¬ OnArray (λ ts. AllZip R ts (array_items xs)) t) → (x : Multiple T) → ¬ ReadsMultiple R t x

@@ -9,7 +9,7 @@ use Rattle.amqp_de.specs.Maps.{OnMap}
 use Rattle.amqp_de.specs.Readings.{BeginsWith}
 use Rattle.amqp_de.specs.Reads.{OnList, OnArray}
 use Rattle.amqp_de.specs.Values.{elements_in, entries_in}
-use Rattle.amqp_de.proofs.Lists.{is_list, is_array, is_map, is_described, is_fields}
+use Rattle.amqp_de.proofs.Lists.{is_list, is_array, is_map, is_described}
 
 pub on_list : (K : List Tree → Type 0) (t : Tree) → OnList K t ↔ ((ts : Trees) × (t ≡ tree.list ts) × K (elements_in ts))
 unfolding OnList
@@ -26,10 +26,6 @@ on_map K t = (is_map K t, λ h. subst (OnMap K) (sym h.1) h.2)
 pub on_described : (d : Descriptor) (K : Tree → Type 0) (t : Tree) → OnDescribed d K t ↔ ((u : Tree) × (t ≡ tree.described d u) × K u)
 unfolding OnDescribed
 on_described d K t = (is_described d K t, λ h. subst (OnDescribed d K) (sym h.1) (refl, h.2))
-
-on_fields : (K : FieldSource → Type 0) (t : Tree) → OnFields K t ↔ ((ts : Trees) × (t ≡ tree.list ts) × K (by_position (elements_in ts)))
-unfolding OnFields
-on_fields K t = (is_fields K t, λ h. subst (OnFields K) (sym h.1) h.2)
 
 -- `K` holds for elements if and only if `L` does.
 pub record Agree (K : FieldSource → Type 0) (L : List Tree → Type 0) : Type 0 where
@@ -51,6 +47,6 @@ one_more {T} {K} {L} R x agree = record { both = go }
 pub of_fields : {K : FieldSource → Type 0} {L : List Tree → Type 0} → Agree K L
     → (t : Tree) → OnFields K t ↔ ((ts : Trees) × (t ≡ tree.list ts) × L (elements_in ts))
 of_fields {K} {L} agree t = (
-  λ h. let r = (on_fields K t).0 h in (r.0, r.1, (agree.both (elements_in r.0)).0 r.2),
-  λ h. (on_fields K t).1 (h.0, h.1, (agree.both (elements_in h.0)).1 h.2),
+  λ h. let r = (on_list (λ ts. K (by_position ts)) t).0 h in (r.0, r.1, (agree.both (elements_in r.0)).0 r.2),
+  λ h. (on_list (λ ts. K (by_position ts)) t).1 (h.0, h.1, (agree.both (elements_in h.0)).1 h.2),
 )

@@ -3,10 +3,12 @@ use Rattle.std.proofs.Common.{◌↔◌, inl, inr, ℕ, List, [], ◌∷◌, Res
 use Rattle.amqp_ser.specs.Tree as tree
 use Rattle.amqp_ser.specs.Tree.{Tree}
 use Rattle.amqp_de.specs.Fields.{FieldSource, by_position, by_name, without, ReadsField, OnFields, OnEntries, OnNamed}
+use Rattle.amqp_de.specs.Maps.{OnMap}
+use Rattle.amqp_de.specs.Reads.{OnList}
 use Rattle.amqp_de.specs.Results.{Takes}
 use Rattle.amqp_de.specs.Values.{elements_in, entries_in}
 use Rattle.amqp_de.specs.declared.fault.Fault.{Fault}
-use Rattle.amqp_de.proofs.Lists.{is_fields, is_entries}
+use Rattle.amqp_de.proofs.Lists.{is_list, is_map}
 
 module _ {T : Type 0} (Absent : T → Type 0) (n : List ℕ) (R : Tree → T → Type 0) (x : T) (K L : FieldSource → Type 0) where
   pub field_position : (m : List ℕ) → ((ts : List Tree) → K (by_position ts) ↔ L (by_position ts)) → (ts : List Tree) → ReadsField Absent n R x K (by_position ts) ↔ ReadsField Absent m R x L (by_position ts)
@@ -20,17 +22,17 @@ module _ {T : Type 0} (Absent : T → Type 0) (n : List ℕ) (R : Tree → T →
 
 module _ (K L : FieldSource → Type 0) where
   pub on_fields : ((ts : List Tree) → K (by_position ts) ↔ L (by_position ts)) → (t : Tree) → OnFields K t ↔ OnFields L t
-  unfolding OnFields
+  unfolding OnList
   on_fields h t = (
-    λ p. let (ts, is, k) = is_fields K t p in subst (OnFields L) (sym is) ((h (elements_in ts)).0 k),
-    λ p. let (ts, is, k) = is_fields L t p in subst (OnFields K) (sym is) ((h (elements_in ts)).1 k),
+    λ p. let (ts, is, k) = is_list _ t p in subst (OnFields L) (sym is) ((h (elements_in ts)).0 k),
+    λ p. let (ts, is, k) = is_list _ t p in subst (OnFields K) (sym is) ((h (elements_in ts)).1 k),
   )
 
   pub on_entries : ((ps : List (Tree × Tree)) → K (by_name ps) ↔ L (by_name ps)) → (t : Tree) → OnEntries K t ↔ OnEntries L t
-  unfolding OnEntries
+  unfolding OnMap
   on_entries h t = (
-    λ p. let (ps, is, k) = is_entries K t p in subst (OnEntries L) (sym is) ((h (entries_in ps)).0 k),
-    λ p. let (ps, is, k) = is_entries L t p in subst (OnEntries K) (sym is) ((h (entries_in ps)).1 k),
+    λ p. let (ps, is, k) = is_map _ t p in subst (OnEntries L) (sym is) ((h (entries_in ps)).0 k),
+    λ p. let (ps, is, k) = is_map _ t p in subst (OnEntries K) (sym is) ((h (entries_in ps)).1 k),
   )
 
   pub on_named : ((ts : List Tree) → K (by_position ts) ↔ L (by_position ts)) → ((ps : List (Tree × Tree)) → K (by_name ps) ↔ L (by_name ps)) → (t : Tree) → OnNamed K t ↔ OnNamed L t

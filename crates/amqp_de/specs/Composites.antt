@@ -2,8 +2,8 @@
 -- (AMQP 1.0 part 1, sections 1.1.2 and 1.4).
 use Rattle.std.specs.Prelude.{◌≡◌, ℕ, List, ◌==◌, not, true}
 use Rattle.amqp_ser.specs.Tree.{Descriptor, name, code, Tree, described}
+use Rattle.amqp_de.specs.Branches.{RestorableApart}
 use Rattle.amqp_de.specs.declared.branches.Either.{Either}
-use Rattle.amqp_de.specs.declared.branches.Either.TheVariants.{This, Other}
 
 -- The descriptor is this code or this name.
 unfoldable pub IsCodeOrName : ℕ → List ℕ → Descriptor → Type 0
@@ -15,12 +15,6 @@ unfoldable pub OnComposite : ℕ → List ℕ → (Tree → Type 0) → Tree →
 OnComposite c n K (described d t) = IsCodeOrName c n d × K t
 OnComposite c n K t = ⊥
 
--- One composite, or one of those after it, which have other descriptors.
-abbrev pub IsAlternative : {A R : Type 0} → (Descriptor → Type 0) → (Tree → A → Type 0) → (Descriptor → Tree → R → Type 0) → Descriptor → Tree → Either A R → Type 0
-IsAlternative Is P Q d t (This x) = Is d × P t x
-IsAlternative Is P Q d t (Other y) = (¬ Is d) × Q d t y
-
 -- Whether one of the composites is restorable: those after the first have another code.
 abbrev pub RestorableAlternative : {A R : Type 0} → ℕ → (R → ℕ) → (A → Type 0) → (R → Type 0) → Either A R → Type 0
-RestorableAlternative c code_of P Q (This x) = P x
-RestorableAlternative c code_of P Q (Other y) = (not (code_of y == c) ≡ true) × Q y
+RestorableAlternative c code_of P Q = RestorableApart (λ y. not (code_of y == c) ≡ true) P Q

@@ -3,7 +3,8 @@
 use Rattle.std.specs.Prelude.{◌≡◌, ℕ, List, [], ◌∷◌, Option, Some, None, Bool, false, bytes_eq, if◌then◌else◌}
 use Rattle.amqp_ser.specs.Tree.{Scalar, string, Descriptor, Tree, scalar, list, array, map, described}
 use Rattle.amqp_de.specs.Values.{elements_in, entries_in}
-use Rattle.amqp_de.specs.Reads.{ReadsOption}
+use Rattle.amqp_de.specs.Maps.{OnMap}
+use Rattle.amqp_de.specs.Reads.{OnList, ReadsOption}
 
 -- The scalar is the string with this text.
 abbrev pub is_text : List ℕ → Scalar → Bool
@@ -59,9 +60,8 @@ unfoldable pub NoMoreFields : FieldSource → Type 0
 NoMoreFields b = Unit {0}
 
 -- The fields are read from a list.
-unfoldable pub OnFields : (FieldSource → Type 0) → Tree → Type 0
-OnFields K (list ts) = K (by_position (elements_in ts))
-OnFields K t = ⊥
+abbrev pub OnFields : (FieldSource → Type 0) → Tree → Type 0
+OnFields K t = OnList (λ ts. K (by_position ts)) t
 
 -- The fields are read from a list, an array or a map.
 unfoldable pub OnNamed : (FieldSource → Type 0) → Tree → Type 0
@@ -76,6 +76,5 @@ OnDescribed d K (described e t) = (e ≡ d) × K t
 OnDescribed d K t = ⊥
 
 -- The fields are read from a map.
-unfoldable pub OnEntries : (FieldSource → Type 0) → Tree → Type 0
-OnEntries K (map ps) = K (by_name (entries_in ps))
-OnEntries K t = ⊥
+abbrev pub OnEntries : (FieldSource → Type 0) → Tree → Type 0
+OnEntries K t = OnMap (λ ps. K (by_name ps)) t

@@ -4,9 +4,8 @@ ghost use Rattle.std.specs.Prelude.{ℕ, List, []};
 ghost use Rattle.amqp_ser.specs.Carried.{descriptor_content};
 ghost use Rattle.amqp_ser.specs.Tree.{Tree, Descriptor as AnyDescriptor};
 ghost use Rattle.amqp_ser.specs.Tree.{code as numbered, described, scalar, null};
-ghost use Rattle.amqp_de.specs.Branches.{OnBranches, either, SameEither};
-ghost use Rattle.amqp_de.specs.Composites.{IsCodeOrName};
-ghost use Rattle.amqp_de.specs.Composites.{IsAlternative, RestorableAlternative};
+ghost use Rattle.amqp_de.specs.Branches.{IsAlternative, OnBranches, either, SameEither};
+ghost use Rattle.amqp_de.specs.Composites.{IsCodeOrName, RestorableAlternative};
 ghost use Rattle.amqp_de.specs.Results.{Takes, BringsBranch};
 
 use crate::branches::{Either, Never};

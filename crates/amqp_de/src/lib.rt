@@ -9,7 +9,6 @@ mod composite;
 mod defaulted;
 mod described_shapes;
 mod deserialize;
-mod elements;
 mod encoded;
 mod encoded_parts;
 mod errors;

@@ -1,18 +1,34 @@
-//! Optional values, boxes and untyped values.
+//! Null, optional values, boxes, untyped values and lazy values.
 
 ghost use Rattle.std.specs.Prelude.{◌≡◌};
 ghost use Rattle.amqp_ser.specs.Tree.{scalar, null};
 ghost use Rattle.amqp_value.specs.Sound.{IsSound};
 ghost use Rattle.amqp_value.specs.TreeOf.{tree_of};
-ghost use Rattle.amqp_de.specs.Reads.{ReadsOption, image_option};
-ghost use Rattle.amqp_de.specs.Reads.{RestorableOption, SameOption};
+ghost use Rattle.amqp_de.specs.Reads.{ReadsOption, image_option, RestorableOption, SameOption};
+ghost use Rattle.amqp_de.specs.Reads.{ReadsLazy};
 
 use crate::deserialize::Deserialize;
 use crate::fault::Fault;
 use crate::keys::ordered_keys_differ;
 use crate::source::Source;
+use amqp_frame::LazyValue;
 use amqp_value::Value;
+use amqp_wire::to_lazy_value;
 use std::alloc::Global;
+
+impl Deserialize for () {
+    ghost reads = { λ t _. t ≡ scalar null };
+
+    ghost image = { λ _. scalar null };
+
+    #[inline(always)]
+    fn read<S: Source>(_alloc: Global, source: S) -> Result<((), S::Rest), Fault> {
+        match source.null() {
+            Ok(rest) => Ok(((), rest)),
+            Err(fault) => Err(fault),
+        }
+    }
+}
 
 impl<T: Deserialize> Deserialize for Option<T> {
     ghost reads = { ReadsOption T.reads };
@@ -73,5 +89,31 @@ impl Deserialize for Value {
 
     fn have_distinct_trees<V>(alloc: Global, entries: &[(Value, V)]) -> bool {
         ordered_keys_differ(alloc, entries)
+    }
+}
+
+/// Reads any value as the bytes of its encoding.
+///
+/// No lazy value is restorable, because the value inside it may have been encoded in another form.
+/// The image is a placeholder.
+///
+/// # Errors
+/// Of an untyped value returns the error of `to_lazy_value`.
+impl Deserialize for LazyValue {
+    ghost reads = { ReadsLazy };
+
+    ghost image = { λ _. scalar null };
+
+    ghost restorable = { λ _. ⊥ };
+
+    fn read<S: Source>(alloc: Global, source: S) -> Result<(LazyValue, S::Rest), Fault> {
+        let (value, rest) = match source.untyped(alloc) {
+            Ok(read) => read,
+            Err(fault) => return Err(fault),
+        };
+        match to_lazy_value(alloc, &value) {
+            Ok(lazy) => Ok((lazy, rest)),
+            Err(error) => Err(Fault::from(error)),
+        }
     }
 }

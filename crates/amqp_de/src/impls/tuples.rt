@@ -6,9 +6,8 @@ ghost use Rattle.amqp_de.specs.Fields.{OnFields, ReadsRequired, NoMoreFields};
 ghost use Rattle.amqp_de.specs.Parts.{◌▸◌};
 
 use crate::deserialize::Deserialize;
-use crate::elements::Element;
 use crate::fault::Fault;
-use crate::fields::FieldValues;
+use crate::fields::{Element, FieldValues};
 use crate::seed::{Record, read};
 use crate::source::Source;
 use amqp_ser::ListOf;

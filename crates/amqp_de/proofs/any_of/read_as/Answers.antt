@@ -2,7 +2,7 @@ use Rattle.std.proofs.Common.{rules, ◌≡◌, ◌∙◌, ap, sym, inl, inr}
 use Rattle.amqp_de.specs.Forms.{form_of}
 use Rattle.amqp_de.specs.declared.form.Form.TheVariants as form
 use Rattle.amqp_de.proofs.AnyForms.{list_form, map_form, fields_named, named_fields, entries_named, named_entries, named_form, list_image, map_image, no_image}
-use Rattle.amqp_de.proofs.Lists.{is_fields, is_entries}
+use Rattle.amqp_de.proofs.Lists.{is_list, is_map}
 use Rattle.amqp_de.proofs.any_of.read_as.Goals as goal
 
 pub returns-in-Ok-clause-read : goal.returns-in-Ok-clause-read
@@ -10,7 +10,7 @@ returns-in-Ok-clause-read g c known = (fields_named _ _ c.in-Ok.ensures.read.0, 
 
 pub returns-in-Ok-clause-law : goal.returns-in-Ok-clause-law
 returns-in-Ok-clause-law g c known x p i =
-    let (ts, is, k) = is_fields _ _ c.in-Ok.ensures.read.0 in
+    let (ts, is, k) = is_list _ _ c.in-Ok.ensures.read.0 in
     elim (list_image (g.F.FieldSeeds.names c.args.fields) (g.F.FieldSeeds.images x) (g.S.Source.value c.args.source) ts is i) [ inl all ↦ c.in-Ok.ensures.law x p all | inr short ↦ c.in-Ok.ensures.short x p short ]
 
 pub returns-in-Err-clause-read : goal.returns-in-Err-clause-read
@@ -48,7 +48,7 @@ returns-in-Ok-read-clause-read g c known = (entries_named _ _ c.in-Ok-read.ensur
 
 pub returns-in-Ok-read-clause-law : goal.returns-in-Ok-read-clause-law
 returns-in-Ok-read-clause-law g c known x p i =
-    let (ps, is, k) = is_entries _ _ c.in-Ok-read.ensures.read.0 in
+    let (ps, is, k) = is_map _ _ c.in-Ok-read.ensures.read.0 in
     c.in-Ok-read.ensures.law x p (map_image (g.F.FieldSeeds.names c.args.fields) (g.F.FieldSeeds.images x) (g.S.Source.value c.args.source) ps is i)
 
 pub returns-in-Err-read-clause-read : goal.returns-in-Err-read-clause-read

@@ -1,21 +1,21 @@
 use Rattle.std.proofs.Common.{inl, inr, sym}
 use Rattle.amqp_de.specs.Present.{short_list}
 use Rattle.amqp_de.proofs.LeftOut.{full, cut}
-use Rattle.amqp_de.proofs.Lists.{is_fields, to_fields, of_fields}
+use Rattle.amqp_de.proofs.Lists.{is_list, to_list, of_list}
 use Rattle.amqp_de.proofs.seed.ListOfSeed.read.Goals as goal
 
 pub returns-in-Err-clause-read : goal.returns-in-Err-clause-read
 returns-in-Err-clause-read g c w =
     elim (c.in-Err.ensures.err w) [
       | inl m ↦ inl m
-      | inr n ↦ inr (λ x h. let is = is_fields _ _ h in n is.0 is.1)
+      | inr n ↦ inr (λ x h. let is = is_list _ _ h in n is.0 is.1)
     ]
 
 pub returns-in-Ok-read_elements-clause-read : goal.returns-in-Ok-read_elements-clause-read
 returns-in-Ok-read_elements-clause-read g c =
     let (ts, h, reads, law) = c.in-Ok-read_elements.ensures.ok in
     let (is, left) = c.in-Ok.ensures.ok ts h in
-    (to_fields _ _ ts is reads, left)
+    (to_list _ _ ts is reads, left)
 
 pub returns-in-Ok-read_elements-clause-law : goal.returns-in-Ok-read_elements-clause-law
 returns-in-Ok-read_elements-clause-law g c x some e =
@@ -35,7 +35,7 @@ returns-clause-read g c w =
     let (are, is) = c.in-Ok.ensures.whole w in
     elim (c.in-Err-read_elements.ensures.err are) [
       | inl m ↦ inl m
-      | inr n ↦ inr (λ x h. n x (of_fields _ _ _ is h))
+      | inr n ↦ inr (λ x h. n x (of_list _ _ _ is h))
     ]
 
 pub returns-clause-law : goal.returns-clause-law

@@ -1,5 +1,5 @@
 use Rattle.std.proofs.Common.{inl, inr}
-use Rattle.amqp_de.proofs.impls.unit.UnitDeserialize.read.Goals as goal
+use Rattle.amqp_de.proofs.impls.holders.UnitDeserialize.read.Goals as goal
 
 pub returns-in-Err-clause-read : goal.returns-in-Err-clause-read
 returns-in-Err-clause-read g c w =

@@ -1,7 +1,7 @@
 use Rattle.std.proofs.Common.{inl, subst}
 use Rattle.amqp_de.specs.Reads.{ReadsLazy}
 use Rattle.amqp_de.proofs.LazyRefused.{unreadable}
-use Rattle.amqp_de.proofs.impls.lazy.LazyValueDeserialize.read.Goals as goal
+use Rattle.amqp_de.proofs.impls.holders.LazyValueDeserialize.read.Goals as goal
 
 pub returns-in-Err-clause-read : goal.returns-in-Err-clause-read
 returns-in-Err-clause-read g c w = inl (c.in-Err.ensures.whole w)
