@@ -1,0 +1,1 @@
+-- draft: names to be corrected from ck3
