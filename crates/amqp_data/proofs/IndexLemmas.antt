@@ -27,11 +27,11 @@ module _ {X : Type 0} (p : X → Bool) where
       let rest = no_place xs (λ j d below. fails (suc j) d (omega (arith, below))) in
       rw (fails 0 x (omega arith)) (omega (arith, rest))
 
-  position_is : (xs : List X) (i : ℕ) (d : X) → i < length xs → p (get_or xs i d) ≡ true
+  pub position_is : (xs : List X) (i : ℕ) (d : X) → i < length xs → p (get_or xs i d) ≡ true
       → ((j : ℕ) → j < i → p (get_or xs j d) ≡ false) → Some i ≡ position p xs
   position_is xs i d within passes fails = rw (place_is xs i d within passes fails) (grind (arith, nat_tests))
 
-  no_position : (xs : List X) → ((j : ℕ) (d : X) → j < length xs → p (get_or xs j d) ≡ false) → None ≡ position p xs
+  pub no_position : (xs : List X) → ((j : ℕ) (d : X) → j < length xs → p (get_or xs j d) ≡ false) → None ≡ position p xs
   no_position xs fails = rw (no_place xs fails) (grind (arith, nat_tests))
 
 not_both : {K : Type 0} (eq : K → K → Bool) (laws : IsEquivalence eq) (b : Bool) (k x y : K) → eq k x ≡ b → eq k y ≡ true → eq x y ≡ false → eq k x ≡ false

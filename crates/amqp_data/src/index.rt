@@ -25,16 +25,23 @@ pub(crate) fn bucket_of<K: Hash>(key: &K, count: usize) -> usize
     ((hasher.finish() >> 32) % count as u64) as usize
 }
 
-/// Returns the position of the key. The keys are searched in order.
+/// Returns the position of the key. The keys are searched in order. Inlined, so that the key is read
+/// once.
 #[inline(always)]
 pub(crate) fn position_of<K: Eq, V>(entries: &[(K, V)], key: &K) -> Option<usize>
     ensures { result ≡ position (λ e. K.eq key.now e.0) entries.now }
 {
-    entries.iter().position(|entry| *key == entry.0)
+    for i in 0..entries.len() {
+        if *key == entries[i].0 {
+            return Some(i);
+        }
+    }
+    None
 }
 
 /// Returns the position of the key, which is in the bucket if it is present. Takes one off `left` for
 /// each comparison, and returns `None` if none is left.
+#[inline(always)]
 pub(crate) fn find_within<K: Hash + Eq, V>(
     entries: &[(K, V)],
     heads: &[u32],
