@@ -7,7 +7,8 @@
 //!
 //! A serializer that declares compounds of its own, which are not generic, builds them from
 //! `feed_part`, `feed_entry`, `feed_descriptor`, `feed_single`, `feed_any`,
-//! `feed_tuple_field`, `open_body` and `end_fields`: each is one step of a compound, for any serializer and its open compound.
+//! `feed_tuple_field`, `open_body` and `end_fields`: each is one step of a compound, for any
+//! serializer and its open compound.
 #![tactic(auto)]
 
 mod calls;

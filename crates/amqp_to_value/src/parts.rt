@@ -36,8 +36,8 @@ pub enum CollectedParts {
 }
 
 impl CollectedParts {
-    /// Returns the empty parts of a compound of this kind, other than `CompoundKind::Single`, under a
-    /// marker.
+    /// Returns the empty parts of a compound of this kind, other than `CompoundKind::Single`, under
+    /// a marker.
     #[inline(always)]
     pub fn new(alloc: Global, pending: PendingMarker, kind: CompoundKind) -> CollectedParts
         ensures makes { is_single kind ≡ false → (o : Option Trees) →

@@ -65,9 +65,9 @@ impl MapBuilder {
     /// Returns the map of the entries, in order.
     ///
     /// # Errors
-    /// Returns `Error::OutOfMemory` if an allocation fails, which can happen only if a key repeats,
-    /// or if the keys do not ascend, and a key is long (`is_short_key`), or there are more than 8
-    /// entries and the hashes of their keys do not show that they differ.
+    /// Returns `Error::OutOfMemory` if an allocation fails, which can happen in three cases only: a
+    /// key repeats; the keys do not ascend, and one of them is long (`is_short_key`); or the keys do
+    /// not ascend, there are more than 8, and their hashes do not show that they differ.
     ///
     /// # Memory
     /// None if each key is greater than the one before it, or if there are at most 8 entries, all

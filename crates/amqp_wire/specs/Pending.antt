@@ -20,8 +20,8 @@ meant (pending.Marker m) (Some t) = marked_tree m t
 meant pending.Descriptor (Some t) = only_as (descriptor_of (Some t)) t
 meant pending.Nothing (Some t) = None
 
--- A compound of this kind is valid: a single one always, any kind without a marker, and a list under
--- the markers of lists.
+-- A compound of this kind is valid: a single one always, any kind without a marker, and a list
+-- under the markers of lists.
 abbrev pub fits : CompoundKind → Pending → Bool
 fits kinds.Single u = true
 fits k (pending.Marker marker.Other) = true

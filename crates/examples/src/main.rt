@@ -2,8 +2,8 @@
 //!
 //! `main` computes the length of a message, writes its bytes, prints it as an untyped value, splits
 //! the bytes into the message's sections and decodes each section; counts the message's nodes with
-//! the serializer `NodeCounter`; compares a property of another message; writes and reads structs of
-//! one to 32 fields; and reads gusts of wind.
+//! the serializer `NodeCounter`; compares a property of another message; writes and reads structs
+//! of one to 32 fields; and reads gusts of wind.
 //!
 //! - `message`, `room`: the sections of a message, and a value that is written only if it fits.
 //! - `ranges`: an untyped value that is encoded and decoded again.

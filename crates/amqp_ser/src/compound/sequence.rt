@@ -72,8 +72,8 @@ impl<'a, S: Serializer> SerializeSeq<'a, S> {
     /// accepting elements.
     ///
     /// # Example
-    /// The string `a` appends `a10161`. Under `Marker::Array` it appends `0000000161`, and the first
-    /// element also the constructor `b1`.
+    /// The string `a` appends `a10161`. Under `Marker::Array` it appends `0000000161`, and the
+    /// first element also the constructor `b1`.
     #[inline(always)]
     pub fn serialize_element<T: Serialize>(&mut self, value: &T) -> Result<(), S::Error>
         ensures same { (list_reference self.new).ghost_name

@@ -18,8 +18,8 @@ use crate::struct_encoding::StructEncoding;
 ///
 /// # Errors
 /// Returns the serializer's error for the field or the descriptor. Always returns an error if the
-/// descriptor is neither a ulong nor a symbol. Returns a misuse error for a second field of a single
-/// value. The compound is then unchanged.
+/// descriptor is neither a ulong nor a symbol. Returns a misuse error for a second field of a
+/// single value. The compound is then unchanged.
 ///
 /// # Example
 /// `true` appends `41` to a list that has been open from the start.
