@@ -24,16 +24,10 @@ def said(t):
     return out + ("///\n/// # Encoding\n" + doc(encoding) if encoding else "")
 
 
-def derive(table, t):
-    traits = ["Debug", "Clone" * clones(table, t), "Copy" * (t.kind == "choice"), "Default" * (t.kind == "list" and not has_mandatory(t)), "PartialEq",
+def derive(t):
+    traits = ["Debug", "Clone", "Copy" * (t.kind == "choice"), "Default" * (t.kind == "list" and not has_mandatory(t)), "PartialEq",
               "Eq" * (t.kind == "choice" or t.key), "Hash" * t.key, "Drop" * (t.kind != "choice")]
     return f"#[derive({', '.join(filter(None, traits))})]\n"
-
-
-def clones(table, t):
-    """Whether the type has `Clone`, which `Multiple` does not have."""
-    types = [] if t.kind == "choice" else [table.types[f.type] for f in t.fields if f.type in table.types]
-    return not any(f.multiple for f in t.fields) and all(clones(table, it) for it in types)
 
 
 def has_mandatory(t):
@@ -53,7 +47,7 @@ def is_plain(f):
 
 def struct(table, t):
     rename = ', rename_all = "kebab-case"' * bool(t.fields) + ", new" * has_mandatory(t)
-    out = f'// amqp: encoding = "list", code = {t.code}, name = "{t.symbol}"{rename}\n{derive(table, t)}'
+    out = f'// amqp: encoding = "list", code = {t.code}, name = "{t.symbol}"{rename}\n{derive(t)}'
     if not t.fields:
         return out + f"pub struct {t.rust};\n"
     rows = ""
@@ -70,7 +64,7 @@ def choice(table, t):
     line = ", ".join(values)
     source = {"boolean": "bool", "ubyte": "u8", "uint": "u32", "symbol": "Symbol"}[t.source]
     rows = "".join(doc(f.comment, "    ") + f"    {variant(f)},\n" for f in t.fields)
-    return f'// amqp: encoding = "restricted", source = "{source}", values = [{line}]\n{derive(table, t)}pub enum {t.rust} {{\n{rows}}}\n'
+    return f'// amqp: encoding = "restricted", source = "{source}", values = [{line}]\n{derive(t)}pub enum {t.rust} {{\n{rows}}}\n'
 
 
 def variant(f):
@@ -85,11 +79,11 @@ def enum(table, t):
         rows += doc(comment, "    ") + f"    {variant(f)}({table.rust(f.type)}),\n"
     if t.others:
         rows += doc("A described value of another type, which is kept.", "    ") + "    Other(Unknown),\n"
-    return f'// amqp: encoding = "{t.kind}"{flags}\n{derive(table, t)}pub enum {t.rust} {{\n{rows}}}\n'
+    return f'// amqp: encoding = "{t.kind}"{flags}\n{derive(t)}pub enum {t.rust} {{\n{rows}}}\n'
 
 
 def section(table, t):
-    return f'// amqp: encoding = "basic", code = {t.code}, name = "{t.symbol}"\n{derive(table, t)}pub struct {t.rust}(pub {table.rust(t.source)});\n'
+    return f'// amqp: encoding = "basic", code = {t.code}, name = "{t.symbol}"\n{derive(t)}pub struct {t.rust}(pub {table.rust(t.source)});\n'
 
 
 def defaults(table, t):

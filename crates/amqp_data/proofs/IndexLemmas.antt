@@ -10,7 +10,7 @@ use Rattle.std.specs.List.{position_or_len}
 use Rattle.std.specs.Map.{keys_of}
 use Rattle.amqp_data.specs.Pairs.{LacksKey, AreDistinct}
 use Rattle.amqp_data.specs.Index.{bucket_of, buckets, IsLast, IsChained, IsIndexed}
-use Rattle.amqp_data.proofs.PairLemmas.{insert_new, distinct_after}
+use Rattle.amqp_data.proofs.PairLemmas.{distinct_push}
 
 module _ {X : Type 0} (p : X → Bool) where
   place_is : (xs : List X) (i : ℕ) (d : X) → i < length xs → p (get_or xs i d) ≡ true
@@ -27,11 +27,11 @@ module _ {X : Type 0} (p : X → Bool) where
       let rest = no_place xs (λ j d below. fails (suc j) d (omega (arith, below))) in
       rw (fails 0 x (omega arith)) (omega (arith, rest))
 
-  position_is : (xs : List X) (i : ℕ) (d : X) → i < length xs → p (get_or xs i d) ≡ true
+  pub position_is : (xs : List X) (i : ℕ) (d : X) → i < length xs → p (get_or xs i d) ≡ true
       → ((j : ℕ) → j < i → p (get_or xs j d) ≡ false) → Some i ≡ position p xs
   position_is xs i d within passes fails = rw (place_is xs i d within passes fails) (grind (arith, nat_tests))
 
-  no_position : (xs : List X) → ((j : ℕ) (d : X) → j < length xs → p (get_or xs j d) ≡ false) → None ≡ position p xs
+  pub no_position : (xs : List X) → ((j : ℕ) (d : X) → j < length xs → p (get_or xs j d) ≡ false) → None ≡ position p xs
   no_position xs fails = rw (no_place xs fails) (grind (arith, nat_tests))
 
 not_both : {K : Type 0} (eq : K → K → Bool) (laws : IsEquivalence eq) (b : Bool) (k x y : K) → eq k x ≡ b → eq k y ≡ true → eq x y ≡ false → eq k x ≡ false
@@ -146,12 +146,6 @@ module _ {K V : Type 0} (eq : K → K → Bool) (input : K → HashWrites) where
     chained = λ some. subst (IsChained heads earlier) (sym (map_kept (λ (k : K). bucket_of (length heads) (input k)) es i e v is)) (indexed.chained some);
   }
 
-  -- a new key is unequal to the others
-  pub distinct_push : ((x y : K) → eq x y ≡ eq y x) → (es : List (K × V)) (k : K) (v : V) → AreDistinct eq (keys_of es) → None ≡ position (λ e. eq k e.0) es
-      → AreDistinct eq (keys_of (es ++ (k, v) ∷ []))
-  distinct_push symmetric es k v distinct none =
-      subst (λ (fs : List (K × V)). AreDistinct eq (keys_of fs)) (sym (insert_new eq k es v none)) (distinct_after eq symmetric k v es distinct)
-
 -- a position that a search gave, in the same list
 pub place : {X : Type 0} (p : X → Bool) (ds es : List X) (r a : Option ℕ) → r ≡ position p ds → r ≡ a → ds ≡ es → a ≡ position p es
 place p ds es r a is same list = sym same ∙ is ∙ ap (position p) list
@@ -166,7 +160,7 @@ pub indexed_push : {K V : Type 0} (eq : K → K → Bool) (input : K → HashWri
     → 0 < length new_heads → IsChained new_heads new_earlier (buckets input (length new_heads) fs))
     → IsIndexed eq input new_heads new_earlier fs
 indexed_push eq input symmetric heads earlier new_heads new_earlier es fs k v b indexed none is bucket added = record {
-  distinct = subst (λ (xs : List (_ × _)). AreDistinct eq (keys_of xs)) (sym is) (distinct_push eq input symmetric es k v indexed.distinct none);
+  distinct = subst (λ (xs : List (_ × _)). AreDistinct eq (keys_of xs)) (sym is) (distinct_push eq symmetric es k v indexed.distinct none);
   chained = added es (k, v) is (λ some. (bucket some, indexed.chained some));
 }
 
@@ -182,7 +176,7 @@ indexed_next eq input symmetric heads earlier new_heads new_earlier es e b index
     let one : map bucket es ++ b ∷ [] ≡ buckets input (length heads) (es ++ e ∷ []) =
     ap (λ c. map bucket es ++ c ∷ []) is ∙ sym (map-append bucket es (e ∷ [])) in
     record {
-      distinct = distinct_push eq input symmetric es e.0 e.1 indexed.distinct none;
+      distinct = distinct_push eq symmetric es e.0 e.1 indexed.distinct none;
       chained = λ more. subst (λ (n : ℕ). IsChained new_heads new_earlier (buckets input n (es ++ e ∷ []))) (sym same)
           (subst (IsChained new_heads new_earlier) one (added (buckets input (length heads) es) (indexed.chained some)));
     }
@@ -194,3 +188,7 @@ if_true false f = tt
 pub unless_true : (P : Type 0) (b : Bool) → b ≡ false → OnTrue b P
 unless_true P true is = absurd (true≢false is)
 unless_true P false is = tt
+
+pub on_true : (b : Bool) (P : Type 0) → b ≡ true → OnTrue b P → P
+on_true true P is p = p
+on_true false P is p = absurd (true≢false (sym is))

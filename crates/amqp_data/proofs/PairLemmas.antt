@@ -1,5 +1,5 @@
 -- Lookup and insertion of a key, by its position in the list.
-use Rattle.std.proofs.Common.{◌≡◌, ℕ, zero, suc, ◌<◌, Bool, true, false, List, [], ◌∷◌, ◌++◌, length, get_or, slice_set, position, Some, None, refl, sym, ap, ◌∙◌, append_assoc, arith}
+use Rattle.std.proofs.Common.{◌≡◌, ℕ, zero, suc, ◌<◌, Bool, true, false, List, [], ◌∷◌, ◌++◌, length, get_or, slice_set, position, Some, None, refl, sym, ap, ◌∙◌, subst, append_assoc, arith}
 use Rattle.std.proofs.lemmas.List.{append-nil}
 use Rattle.std.proofs.lemmas.List.Quantifiers.{position-Some}
 use Rattle.std.specs.Map.{keys_of, lookup}
@@ -75,6 +75,18 @@ module _ {K V : Type 0} (eq : K → K → Bool) (symmetric : (x y : K) → eq x 
   pub distinct_after : (es : List (K × V)) → AreDistinct eq (keys_of es) → AreDistinct eq (keys_of (insert_pair eq es k v))
   distinct_after [] distinct = (tt, tt)
   distinct_after (e ∷ es) distinct = distinct_step (eq k e.0) e es refl distinct (distinct_after es distinct.1)
+
+module _ {K V : Type 0} (eq : K → K → Bool) (symmetric : (x y : K) → eq x y ≡ eq y x) where
+  -- a new key is unequal to the others
+  pub distinct_push : (es : List (K × V)) (k : K) (v : V) → AreDistinct eq (keys_of es) → None ≡ position (λ e. eq k e.0) es
+      → AreDistinct eq (keys_of (es ++ (k, v) ∷ []))
+  distinct_push es k v distinct none =
+      subst (λ (fs : List (K × V)). AreDistinct eq (keys_of fs)) (sym (insert_new eq k es v none)) (distinct_after eq symmetric k v es distinct)
+
+  -- entries that are inserted in order have distinct keys
+  pub inserted_distinct : (es done : List (K × V)) → AreDistinct eq (keys_of done) → AreDistinct eq (keys_of (insert_pairs eq es done))
+  inserted_distinct [] done distinct = distinct
+  inserted_distinct (e ∷ es) done distinct = inserted_distinct es (insert_pair eq done e.0 e.1) (distinct_after eq symmetric e.0 e.1 done distinct)
 
 module _ {K V : Type 0} (eq : K → K → Bool) where
   -- one more pair after others

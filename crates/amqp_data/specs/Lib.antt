@@ -1,4 +1,4 @@
--- Definitions used by the contracts of public items.
+-- Definitions used by the contracts of public items, but for Index, Places and SortedHashes.
 pub mod Compares
 pub mod DescriptorParts
 pub mod Fixed
@@ -12,5 +12,7 @@ pub mod MapEntry
 pub mod MapIters
 pub mod MapLends
 pub mod Pairs
+pub mod Places
 pub mod Shown
+pub mod SortedHashes
 pub mod Text

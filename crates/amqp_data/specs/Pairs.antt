@@ -1,5 +1,5 @@
 -- A map as the list of its entries, in order (AMQP 1.0 part 1, section 1.6.23).
-use Rattle.std.specs.Prelude.{◌≡◌, Bool, false, List, [], ◌∷◌, if◌then◌else◌}
+use Rattle.std.specs.Prelude.{◌≡◌, Bool, false, List, [], ◌∷◌, if◌then◌else◌, fold}
 use Rattle.amqp_data.specs.declared.ordered_map.OrderedMap.{OrderedMap}
 use Rattle.amqp_data.specs.declared.ordered_map.Iter.{Iter}
 
@@ -19,8 +19,7 @@ module _ {K V : Type 0} (eq : K → K → Bool) where
 
   -- inserts pairs in order
   abbrev pub insert_pairs : List (K × V) → List (K × V) → List (K × V)
-  insert_pairs [] done = done
-  insert_pairs (e ∷ es) done = insert_pairs es (insert_pair done e.0 e.1)
+  insert_pairs es done = fold (λ made e. insert_pair made e.0 e.1) done es
 
 module _ {K : Type 0} (eq : K → K → Bool) where
   -- no key of the list equals k

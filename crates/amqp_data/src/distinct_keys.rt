@@ -1,20 +1,17 @@
 //! A search for equal keys in a list of entries, by the hashes of the keys.
 
-ghost use Rattle.std.specs.Prelude.{◌≡◌, ◌<◌, ◌≤◌, ◌++◌, ◌∷◌, [], Bool, length, position, replicate, take};
+ghost use Rattle.std.specs.Prelude.{◌≡◌, ◌<◌, ◌≤◌, ◌++◌, [], length, replicate, take};
 ghost use Rattle.std.specs.Prelude.{IfSome, IfOk, OnOk};
 ghost use Rattle.std.specs.Bool.{OnTrue};
 ghost use Rattle.std.specs.Map.{keys_of};
-ghost use Rattle.amqp_data.specs.Index as chains;
 ghost use Rattle.amqp_data.specs.Index.{IsIndexed};
 ghost use Rattle.amqp_data.specs.Pairs.{AreDistinct, insert_pair, insert_pairs};
 
-use crate::index::{add, bucket_of};
+use crate::index::{add, bucket_of, find_within};
+use crate::keys::MAX_IN_ONE_BUCKET;
 use std::alloc::{AllocError, Global};
 use std::hash::Hash;
 use std::mem;
-
-/// The number of entries up to which all keys of a bucket are compared.
-const FEW: usize = 16;
 
 /// Returns true if the hashes of the keys show that no two keys are equal.
 ///
@@ -84,7 +81,7 @@ pub(crate) fn index_all<K: Hash + Eq, V>(
 /// # Example
 /// The entries (2, `true`), (1, `true`), (2, `false`) become (2, `false`), (1, `true`), and it returns
 /// true.
-pub fn merge_repeated_keys<K: Hash + Eq + Drop, V: Drop>(
+pub(crate) fn merge_repeated_keys<K: Hash + Eq + Drop, V: Drop>(
     alloc: Global,
     entries: &mut Vec<(K, V)>,
 ) -> Result<bool, AllocError>
@@ -101,7 +98,11 @@ pub fn merge_repeated_keys<K: Hash + Eq + Drop, V: Drop>(
     let Ok(mut earlier) = Vec::with_capacity(alloc, len) else {
         return Ok(false);
     };
-    let mut left = if len <= FEW { FEW * FEW } else { count };
+    let mut left = if len <= MAX_IN_ONE_BUCKET {
+        MAX_IN_ONE_BUCKET * MAX_IN_ONE_BUCKET
+    } else {
+        count
+    };
     match index_distinct(entries, &mut heads, &mut earlier, &mut left) {
         Some(indexed) => {
             if indexed >= len {
@@ -206,34 +207,4 @@ fn insert_one<K: Hash + Eq + Drop, V: Drop>(
             Ok(false)
         }
     }
-}
-
-// Returns the position of the key, which is in the bucket if it is present. Takes one off `left` for
-// each comparison, and returns `None` if none is left.
-fn find_within<K: Hash + Eq, V>(
-    entries: &[(K, V)],
-    heads: &[u32],
-    earlier: &[u32],
-    bucket: usize,
-    key: &K,
-    left: &mut usize,
-) -> Option<Option<usize>>
-    requires indexed { IsIndexed K.eq K.hash_input heads.now earlier.now entries.now }
-    requires within { bucket < length heads.now }
-    requires bucket { bucket ≡ chains.bucket_of (length heads.now) (K.hash_input key.now) }
-    ensures { IfSome result (λ found. found ≡ position (λ e. K.eq key.now e.0) entries.now) }
-{
-    let mut number = heads[bucket] as usize;
-    while number > 0 {
-        let at = number - 1;
-        if *left == 0 {
-            return None;
-        }
-        if *key == entries[at].0 {
-            return Some(Some(at));
-        }
-        *left -= 1;
-        number = earlier[at] as usize;
-    }
-    Some(None)
 }

@@ -9,11 +9,9 @@ ghost use Rattle.std.specs.Prelude.{IfSome, IsTrue};
 ghost use Rattle.amqp_data.specs.Index as chains;
 ghost use Rattle.amqp_data.specs.Index.{AddsLast, IsIndexed, IsChained, buckets};
 
+use crate::keys::MIN_INDEXED;
 use std::alloc::Global;
 use std::hash::{FoldHasher, Hash, Hasher};
-
-/// The number of entries from which on a list has an index.
-const FIRST_INDEXED: usize = 48;
 
 /// Returns the bucket of a key, of `count` buckets.
 #[tactic(auto, unfolding(crate::specs::Index::bucket_of, crate::specs::Index::hash_of))]
@@ -27,15 +25,53 @@ pub(crate) fn bucket_of<K: Hash>(key: &K, count: usize) -> usize
     ((hasher.finish() >> 32) % count as u64) as usize
 }
 
-// Returns the position of the key, in a list without an index.
+/// Returns the position of the key. The keys are searched in order. Inlined, so that the key is read
+/// once.
 #[inline(always)]
-fn find_in_order<K: Eq, V>(entries: &[(K, V)], key: &K) -> Option<usize>
+pub(crate) fn position_of<K: Eq, V>(entries: &[(K, V)], key: &K) -> Option<usize>
     ensures { result ≡ position (λ e. K.eq key.now e.0) entries.now }
 {
-    entries.iter().position(|entry| *key == entry.0)
+    for i in 0..entries.len() {
+        if *key == entries[i].0 {
+            return Some(i);
+        }
+    }
+    None
+}
+
+/// Returns the position of the key, which is in the bucket if it is present. Takes one off `left` for
+/// each comparison, and returns `None` if none is left.
+#[inline(always)]
+pub(crate) fn find_within<K: Hash + Eq, V>(
+    entries: &[(K, V)],
+    heads: &[u32],
+    earlier: &[u32],
+    bucket: usize,
+    key: &K,
+    left: &mut usize,
+) -> Option<Option<usize>>
+    requires indexed { IsIndexed K.eq K.hash_input heads.now earlier.now entries.now }
+    requires within { bucket < length heads.now }
+    requires bucket { bucket ≡ chains.bucket_of (length heads.now) (K.hash_input key.now) }
+    ensures { IfSome result (λ found. found ≡ position (λ e. K.eq key.now e.0) entries.now) }
+{
+    let mut number = heads[bucket] as usize;
+    while number > 0 {
+        let at = number - 1;
+        if *left == 0 {
+            return None;
+        }
+        if *key == entries[at].0 {
+            return Some(Some(at));
+        }
+        *left -= 1;
+        number = earlier[at] as usize;
+    }
+    Some(None)
 }
 
 // Returns the position of the key, which is in the bucket if it is present.
+#[inline(always)]
 fn find_in_bucket<K: Hash + Eq, V>(
     entries: &[(K, V)],
     heads: &[u32],
@@ -48,15 +84,11 @@ fn find_in_bucket<K: Hash + Eq, V>(
     requires bucket { bucket ≡ chains.bucket_of (length heads.now) (K.hash_input key.now) }
     ensures { result ≡ position (λ e. K.eq key.now e.0) entries.now }
 {
-    let mut number = heads[bucket] as usize;
-    while number > 0 {
-        let at = number - 1;
-        if *key == entries[at].0 {
-            return Some(at);
-        }
-        number = earlier[at] as usize;
+    let mut left = usize::MAX;
+    match find_within(entries, heads, earlier, bucket, key, &mut left) {
+        Some(found) => found,
+        None => position_of(entries, key),
     }
-    None
 }
 
 /// Returns the position of the key, and its bucket if there is an index.
@@ -74,7 +106,7 @@ pub(crate) fn locate<K: Hash + Eq, V>(
     ensures within { 0 < length heads.now → result.1 < length heads.now }
 {
     if heads.is_empty() {
-        return (find_in_order(entries, key), 0);
+        return (position_of(entries, key), 0);
     }
     let bucket = bucket_of(key, heads.len());
     (find_in_bucket(entries, heads, earlier, bucket, key), bucket)
@@ -91,7 +123,7 @@ pub(crate) fn find_indexed<K: Hash + Eq, V>(
     ensures { result ≡ position (λ e. K.eq key.now e.0) entries.now }
 {
     if heads.is_empty() {
-        return find_in_order(entries, key);
+        return position_of(entries, key);
     }
     let bucket = bucket_of(key, heads.len());
     find_in_bucket(entries, heads, earlier, bucket, key)
@@ -150,7 +182,7 @@ pub(crate) fn add_last<K: Hash + Eq, V>(
     ensures { AddsLast K.hash_input entries.now bucket heads.old.items earlier.old.items
         heads.new.items earlier.new.items }
 {
-    if heads.is_empty() && entries.len() < FIRST_INDEXED {
+    if heads.is_empty() && entries.len() < MIN_INDEXED {
         return;
     }
     add_to_index(entries, heads, earlier, bucket);

@@ -15,6 +15,7 @@ mod error;
 mod format_code;
 mod hexadecimal;
 mod index;
+mod keys;
 pub mod laws;
 mod map_index;
 pub mod markers;
@@ -34,10 +35,14 @@ pub use byte_buf::ByteBuf;
 pub use decimal::{Dec32, Dec64, Dec128};
 pub use described::Described;
 pub use descriptor::Descriptor;
-pub use distinct_keys::{finds_distinct_keys, merge_repeated_keys};
+pub use distinct_keys::finds_distinct_keys;
 pub use error::Error;
 pub use format_code::EncodingCodes;
 pub use hexadecimal::{hexadecimal_digit, write_hexadecimal};
+pub use keys::{
+    MAX_HASHED_BINARY, MAX_HASHED_TEXT, MAX_PAIRED_LONG, MIN_INDEXED, ascends, keys_differ,
+    once_each, once_each_by_order, once_each_by_pairs, once_each_unordered, ordered_keys_differ,
+};
 pub use map_index::MapIndex;
 pub use multiple::Multiple;
 pub use ordered_map::{Entry, Iter, IterMut, Keys, OrderedMap, Values, ValuesMut};

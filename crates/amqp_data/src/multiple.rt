@@ -12,7 +12,7 @@ use crate::array::Array;
 /// # Example
 /// One symbol is encoded as `a30161`, an array of two as
 /// `e00c02b300000001610000000162`.
-#[derive(Debug, PartialEq, Drop)]
+#[derive(Debug, Clone, PartialEq, Drop)]
 pub enum Multiple<T> {
     /// One value, without an array.
     One(T),

@@ -15,6 +15,7 @@ mod lends;
 mod reads;
 
 use crate::Error;
+use crate::index::position_of;
 pub use entry::Entry;
 pub use lends::{IterMut, ValuesMut};
 pub use reads::{Keys, Values};
@@ -184,7 +185,7 @@ impl<K: Hash + Eq, V> OrderedMap<K, V> {
     fn find(&self, key: &K) -> Option<usize>
         ensures { result ≡ position (λ e. K.eq key.now e.0) (entries_of self.now) }
     {
-        self.entries.iter().position(|entry| *key == entry.0)
+        position_of(&self.entries, key)
     }
 }
 

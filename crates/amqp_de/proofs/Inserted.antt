@@ -1,11 +1,9 @@
 -- Pairs that are inserted into a map in order.
-use Rattle.std.proofs.Common.{◌≡◌, inl, inr, Bool, true, false, List, [], ◌∷◌, ◌++◌, Option, None, Some, Result, Ok, Err, IfOk, is_ok, refl, sym, subst, ap, ◌∙◌, fold}
+use Rattle.std.proofs.Common.{◌≡◌, Bool, false, List, [], ◌∷◌, ◌++◌, refl, sym, ap, ◌∙◌, fold}
 use Rattle.std.proofs.lemmas.List.{append_assoc, append-nil}
 use Rattle.std.specs.BTreeMap.{insert_entry}
-use Rattle.std.specs.HashMap as hashed
-use Rattle.std.specs.List.Sorted.{IsPermutation}
 use Rattle.std.specs.List.{AllZip, AllByRecursion}
-use Rattle.std.specs.Map.{keys_of, update_all}
+use Rattle.std.specs.Map.{keys_of}
 use Rattle.std.specs.declared.cmp.Ordering.{Ordering}
 use Rattle.std.specs.declared.cmp.Ordering.TheVariants.{Greater}
 use Rattle.amqp_data.specs.Pairs.{insert_pair}
@@ -15,19 +13,6 @@ use Rattle.amqp_de.specs.Maps.{SamePair, EachBefore, ForAllSame, AreDistinct, As
 all_more : {X : Type 0} (P : X → Type 0) (xs : List X) (x : X) → AllByRecursion P xs → P x → AllByRecursion P (xs ++ x ∷ [])
 all_more P [] x all p = (p, tt)
 all_more P (y ∷ xs) x all p = (all.0, all_more P xs x all.1 p)
-
-all_prefix : {X : Type 0} (P : X → Type 0) (xs : List X) (x : X) → AllByRecursion P (xs ++ x ∷ []) → AllByRecursion P xs × P x
-all_prefix P [] x all = (tt, all.0)
-all_prefix P (y ∷ xs) x all = let (some, last) = all_prefix P xs x all.1 in ((all.0, some), last)
-
--- If `R` relates each element to every later one, it relates each of the others to the last, and
--- the others among themselves.
-pub before_last : {X : Type 0} (R : X → X → Type 0) (xs : List X) (x : X) → EachBefore R (xs ++ x ∷ []) → EachBefore R xs × AllByRecursion (λ y. R y x) xs
-before_last R [] x each = (tt, tt)
-before_last R (y ∷ xs) x each =
-    let (some, last) = all_prefix (R y) xs x each.0 in
-    let (others, after) = before_last R xs x each.1 in
-    ((some, others), (last, after))
 
 -- If a step appends each new element, then folding it over elements that are all new results in the
 -- list of them.
@@ -77,11 +62,6 @@ module _ {K V : Type 0} where
     pub distinct_inserted : (ps : List (K × V)) → EachBefore (λ p q. eq q.0 p.0 ≡ false) ps → inserted_in_order eq ps ≡ ps
     distinct_inserted = all_new (λ p q. eq q.0 p.0 ≡ false) (λ es p. insert_pair eq es p.0 p.1) insert_new
 
-    -- A key without a value has none after updates of other keys.
-    pub new_is_absent : ((k l : K) → eq k l ≡ eq l k) → (es : List (K × V)) (f : K → Option V) (k : K) → f k ≡ None → AllByRecursion (λ e. eq k e.0 ≡ false) es → update_all eq f es k ≡ None
-    new_is_absent flips [] f k none all = none
-    new_is_absent flips (e ∷ es) f k none all = let other : eq e.0 k ≡ false = flips e.0 k ∙ all.0 in new_is_absent flips es _ k (rw other none) all.1
-
   module _ (cmp : K → K → Ordering) where
     insert_greater : (es : List (K × V)) (p : K × V) → AllByRecursion (λ e. cmp p.0 e.0 ≡ Greater) es → insert_entry cmp es p.0 p.1 ≡ es ++ p ∷ []
     insert_greater [] p all = refl
@@ -101,11 +81,3 @@ module _ {K V : Type 0} (S : K → K → Type 0) (U : V → V → Type 0) where
   restored_sorted cmp es ys xs zip apart is =
       let each = each_before S U (λ x y. cmp y x ≡ Greater) ys xs zip apart in
       rw (is ∙ ascending_inserted cmp ys each) zip
-
-module _ {K V H E : Type 0} where
-  -- Inserting a new key adds its pair to the entries.
-  pub put_new : (eq : K → K → Bool) (m n : hashed.HashMap K V H) (k : K) (v : V) (r : Result (Option V) E) → IfOk r (λ old. old ≡ hashed.get eq m k) → IfOk r (hashed.PutsEntry eq m n k v) → is_ok r ≡ true
-      → hashed.get eq m k ≡ None → IsPermutation ((k, v) ∷ m.entries) n.entries
-  put_new eq m n k v (Ok None) old puts ok absent = puts
-  put_new eq m n k v (Ok (Some w)) old puts ok absent = absurd (cc)
-  put_new eq m n k v (Err e) old puts ok absent = absurd (cc)

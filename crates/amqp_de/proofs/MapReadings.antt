@@ -1,26 +1,19 @@
 -- What is read from a map, from what is read from its keys and values.
-use Rattle.std.proofs.Common.{◌≡◌, Bool, true, false, true≢false, if◌then◌else◌, List, [], ◌∷◌, ◌++◌, position, map, Some, None, refl, sym, ap, ◌∙◌, subst}
+use Rattle.std.proofs.Common.{◌≡◌, Bool, true, false, true≢false, if◌then◌else◌, List, [], ◌∷◌, ◌++◌, map, refl, sym, ap, ◌∙◌, subst}
 use Rattle.std.specs.Bool.{OnTrue}
 use Rattle.std.specs.List.{AllZip, AllByRecursion}
-use Rattle.std.specs.Cmp.{IsTotalOrder}
 use Rattle.std.specs.Map.{keys_of}
-use Rattle.std.specs.Ordering.{is_eq}
-use Rattle.std.specs.declared.cmp.Ordering.{Ordering}
-use Rattle.std.specs.declared.cmp.Ordering.TheVariants.{Less}
 use Rattle.amqp_data.specs.Pairs.{insert_pair, LacksKey, AreDistinct}
-use Rattle.amqp_data.proofs.Searches.{AllFail, fail_by_position}
 use Rattle.amqp_ser.specs.Same.{same_tree}
 use Rattle.amqp_ser.specs.Tree as tree
 use Rattle.amqp_ser.specs.Tree.{Tree, Scalar, scalar, pair}
 use Rattle.amqp_value.proofs.SameLemmas.{same-equal, same-itself}
 use Rattle.amqp_value.proofs.Sameness.{equal, equal-is_same}
-use Rattle.amqp_value.specs.Converts.{inserted_in_order}
 use Rattle.amqp_value.specs.Image.{insert_tree}
 use Rattle.amqp_value.specs.TreeOf.{pairs_of, tree_of}
 use Rattle.amqp_value.specs.declared.value.Value.{Value}
 use Rattle.amqp_de.specs.Results.{Reading}
-use Rattle.amqp_de.specs.Maps.{AreApart, Climbs, IsBelow, OnMap, ReadsPair, ReadsPairs, pair_image, IsPair, SamePair, EachBefore}
-use Rattle.amqp_de.proofs.Inserted.{distinct_inserted}
+use Rattle.amqp_de.specs.Maps.{AreApart, OnMap, ReadsPair, ReadsPairs, pair_image, IsPair, SamePair, EachBefore}
 use Rattle.amqp_de.proofs.Lists.{entries_in_pairs, same_pairs}
 
 -- Inserting a pair of trees.
@@ -33,14 +26,6 @@ module _ (k v : Tree) (e : Tree × Tree) (es : List (Tree × Tree)) (rest : pair
 pub pairs_inserted : (es : List (Tree × Tree)) (k v : Tree) → pairs_of (insert_pair same_tree es k v) ≡ insert_tree (pairs_of es) k v
 pairs_inserted [] k v = refl
 pairs_inserted (e ∷ es) k v = present_or_not k v e es (pairs_inserted es k v) (same_tree k e.0)
-
--- A test of all keys that follow a key.
-pub lacks_key : {K V : Type 0} (eq : K → K → Bool) (k : K) (es : List (K × V)) → position (λ e. eq k e.0) es ≡ None → LacksKey eq k (keys_of es)
-lacks_key {K} {V} eq k es none = all_lack es (fail_by_position (λ e. eq k e.0) es none)
-  where
-    all_lack : (fs : List (K × V)) → AllFail (λ e. eq k e.0) fs → LacksKey eq k (keys_of fs)
-    all_lack [] fail = tt
-    all_lack (e ∷ fs) fail = (fail.0, all_lack fs fail.1)
 
 -- Trees that are read as distinct keys are apart, if each tree is read as equal keys alone.
 module _ {K : Type 0} (R : Tree → K → Type 0) (eq : K → K → Bool) (told : (t : Tree) (x y : K) → R t x → R t y → eq x y ≡ true) where
@@ -101,19 +86,6 @@ module _ {K V : Type 0} (RK : Tree → K → Type 0) (imageK : K → Tree) (PK :
       let value : t.1 ≡ imageV x.1 = ap (λ (z : Tree × Tree). z.1) head in
       ((zip.0.0.1 x.0 all.0.0 key, zip.0.1.1 x.1 all.0.1 value), pairs_same ts ps xs zip.1 all.1 tail)
 
--- Entries with distinct keys are inserted unchanged.
-module _ {K V : Type 0} (eq : K → K → Bool) (flips : (k l : K) → eq k l ≡ eq l k) where
-  differ_after : (e : K × V) (es : List (K × V)) → LacksKey eq e.0 (keys_of es) → AllByRecursion (λ (f : K × V). eq f.0 e.0 ≡ false) es
-  differ_after e [] lacks = tt
-  differ_after e (f ∷ es) lacks = (flips f.0 e.0 ∙ lacks.0, differ_after e es lacks.1)
-
-  each_differs : (es : List (K × V)) → AreDistinct eq (keys_of es) → EachBefore (λ (e f : K × V). eq f.0 e.0 ≡ false) es
-  each_differs [] distinct = tt
-  each_differs (e ∷ es) distinct = (differ_after e es distinct.0, each_differs es distinct.1)
-
-  pub distinct_unchanged : (es : List (K × V)) → AreDistinct eq (keys_of es) → inserted_in_order eq es ≡ es
-  distinct_unchanged es distinct = distinct_inserted eq es (each_differs es distinct)
-
 -- A type that is read from scalars of one kind, and a test that holds for keys of the same content.
 module _ {T A : Type 0} (kind : A → Scalar) (told : (a b : A) → kind a ≡ kind b → a ≡ b) (content : T → A) (eq : T → T → Bool) (equal : (x y : T) → content x ≡ content y → eq x y ≡ true) where
   leaf_told : (t : Tree) (x y : T) → t ≡ scalar (kind (content x)) → t ≡ scalar (kind (content y)) → eq x y ≡ true
@@ -125,28 +97,6 @@ module _ {T A : Type 0} (kind : A → Scalar) (told : (a b : A) → kind a ≡ k
       → OnTrue b ((ts : List Tree) → AllZip (λ t x. t ≡ scalar (kind (content x))) ts xs → AreApart ts)
   leaves_apart false xs distinct = tt
   leaves_apart true xs distinct = apart_trees (λ t x. t ≡ scalar (kind (content x))) eq leaf_told xs distinct
-
-pub on_true : (b : Bool) (P : Type 0) → b ≡ true → OnTrue b P → P
-on_true true P is p = p
-on_true false P is p = absurd (true≢false (sym is))
-
--- Keys of which each is below the next one are distinct.
-module _ {K V : Type 0} (eq : K → K → Bool) (cmp : K → K → Ordering) (total : IsTotalOrder cmp) (ties : (x y : K) → eq x y ≡ is_eq (cmp x y)) where
-  below_others : (k l : K) (es : List (K × V)) → cmp k l ≡ Less → AllByRecursion (λ (e : K × V). cmp l e.0 ≡ Less) es → AllByRecursion (λ (e : K × V). cmp k e.0 ≡ Less) es
-  below_others k l [] less all = tt
-  below_others k l (e ∷ es) less all = (total.trans k l e.0 less all.0, below_others k l es less all.1)
-
-  below_all : (e : K × V) (es : List (K × V)) → IsBelow cmp e es → Climbs cmp es → AllByRecursion (λ (f : K × V). cmp e.0 f.0 ≡ Less) es
-  below_all e [] below climbs = tt
-  below_all e (f ∷ es) below climbs = (below, below_others e.0 f.0 es below (below_all f es climbs.0 climbs.1))
-
-  below_lacks : (k : K) (es : List (K × V)) → AllByRecursion (λ (e : K × V). cmp k e.0 ≡ Less) es → LacksKey eq k (keys_of es)
-  below_lacks k [] all = tt
-  below_lacks k (e ∷ es) all = (ties k e.0 ∙ ap is_eq all.0, below_lacks k es all.1)
-
-  pub climbs_distinct : (es : List (K × V)) → Climbs cmp es → AreDistinct eq (keys_of es)
-  climbs_distinct [] climbs = tt
-  climbs_distinct (e ∷ es) climbs = (below_lacks e.0 es (below_all e es climbs.0 climbs.1), climbs_distinct es climbs.1)
 
 value_told : (t : Tree) (x y : Value) → tree_of x ≡ t → tree_of y ≡ t → equal x y ≡ true
 value_told t x y r s = equal-is_same x y ∙ rw (r ∙ sym s) (same-itself (tree_of y))

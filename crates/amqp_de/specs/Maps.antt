@@ -6,11 +6,12 @@ use Rattle.std.specs.HashMap as hashed
 use Rattle.std.specs.List.{AllZip, AllByRecursion}
 use Rattle.std.specs.List.Sorted.{IsPermutation}
 use Rattle.std.specs.declared.cmp.Ordering.{Ordering}
-use Rattle.std.specs.declared.cmp.Ordering.TheVariants.{Less, Greater}
+use Rattle.std.specs.declared.cmp.Ordering.TheVariants.{Greater}
 use Rattle.amqp_data.specs.Pairs.{entries_of}
 use Rattle.amqp_data.specs.declared.ordered_map.OrderedMap.{OrderedMap}
 use Rattle.amqp_ser.specs.Tree.{Tree, map}
 use Rattle.amqp_value.specs.Converts.{inserted_in_order, inserted_sorted}
+pub use Rattle.amqp_value.specs.Inserted.{EachBefore, HoldsHashed}
 use Rattle.amqp_de.specs.Values.{entries_in}
 use Rattle.amqp_ser.specs.Same.{same_tree}
 
@@ -47,11 +48,6 @@ module _ {K V : Type 0} where
   abbrev pub HoldsSorted : (K → K → Ordering) → List (K × V) → tree.BTreeMap K V → Type 0
   HoldsSorted cmp ps m = m.entries ≡ inserted_sorted cmp ps
 
--- `R` relates each element to every later one.
-abbrev pub EachBefore : {X : Type 0} → (X → X → Type 0) → List X → Type 0
-EachBefore R [] = Unit {0}
-EachBefore R (x ∷ xs) = AllByRecursion (R x) xs × EachBefore R xs
-
 -- `R` relates all keys with the contents of `k` to all keys with the contents of `l`.
 abbrev pub ForAllSame : {K : Type 0} → (K → K → Type 0) → (K → K → Type 0) → K → K → Type 0
 ForAllSame {K} S R k l = (x y : K) → S x k → S y l → R x y
@@ -68,22 +64,7 @@ Ascend S cmp = EachBefore (ForAllSame S (λ x y. cmp y x ≡ Greater))
 abbrev pub AreApart : List Tree → Type 0
 AreApart = EachBefore (λ t u. same_tree u t ≡ false)
 
--- The key is below the first key of the entries, if there is one.
-abbrev pub IsBelow : {K V : Type 0} → (K → K → Ordering) → K × V → List (K × V) → Type 0
-IsBelow cmp e [] = Unit {0}
-IsBelow cmp e (f ∷ fs) = cmp e.0 f.0 ≡ Less
-
--- Each key is below the next one.
-abbrev pub Climbs : {K V : Type 0} → (K → K → Ordering) → List (K × V) → Type 0
-Climbs cmp [] = Unit {0}
-Climbs cmp (e ∷ es) = IsBelow cmp e es × Climbs cmp es
-
 module _ {K V H : Type 0} where
-  -- The map results from inserting the pairs in order, and holds them in an unspecified order. If
-  -- no two keys are equal, its entries are a permutation of the pairs.
-  abbrev pub HoldsHashed : (K → K → Bool) → List (K × V) → hashed.HashMap K V H → Type 0
-  HoldsHashed eq ps m = hashed.IsFromIterResult eq ps m × (EachBefore (λ p q. eq q.0 p.0 ≡ false) ps → IsPermutation ps m.entries)
-
   -- In some order, the pairs of one map have the same contents as those of the other.
   abbrev pub SameInSomeOrder : (K × V → K × V → Type 0) → hashed.HashMap K V H → hashed.HashMap K V H → Type 0
   SameInSomeOrder S m n = (ps : List (K × V)) × IsPermutation ps m.entries × AllZip S ps n.entries

@@ -22,7 +22,6 @@ mod lists;
 mod maps;
 mod multiple;
 mod signed;
-mod sorted_hashes;
 mod texts;
 mod transparent;
 mod tuples;

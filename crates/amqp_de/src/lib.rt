@@ -40,6 +40,7 @@ mod source;
 mod variants;
 
 pub use alternatives::{Alternatives, OneOfTypes};
+pub use amqp_data::keys_differ;
 pub use amqp_ser::{ListOf, MapOf};
 pub use any_of::AnyOf;
 pub use branches::{Branch, Branches, Either, Never, NoBranch, OneOf};
@@ -53,7 +54,6 @@ pub use fault::{Fault, FaultKind};
 pub use fields::{FieldSeeds, FieldValues, Required};
 pub use form::Form;
 pub use held_parts::{Held, HeldElements, HeldEntries};
-pub use keys::keys_differ;
 pub use named_fields::NamedFields;
 pub use numbered::Numbered;
 pub use optional_fields::Optional;

@@ -30,7 +30,8 @@ pub refused_next_allowed : {T : Type 0} (R : Tree → T → Type 0) (l : Limits)
 refused_next_allowed R l old new before after bs cs e frame taken same refused =
     inr (bs, frame, taken, subst (λ b. Refuses IsMemory (ReadsAllowed R l b) e) same refused)
 
--- bytes that are read with as many levels as the limits permit are within the limits if they are short enough, with any number of entries
+-- bytes that are read with as many levels as the limits permit are within the limits if they are
+-- short enough, with any number of entries
 pub read-allowed : {T : Type 0} (R : Tree → T → Type 0) (l : Limits) (bs : List ℕ) (d : ℕ) (t : Tree) (x : T) → length bs ≤ l.bytes → suc d ≡ levels l → l.entries ≡ None
     → parse (suc d) bs ≡ Some (t, []) → elements_without_bytes (suc d) bs ≡ 0 → R t x → ReadsAllowed R l bs x
 read-allowed R l bs d t x short deep any parsed none r =

@@ -18,15 +18,15 @@ abbrev pub error_in : SliceError → Error
 error_in (Bytes located) = located.error
 error_in (Value fault) = error_of (kind_of fault)
 
--- The bytes have their first fault at the place, which gives the error; or they encode a value, and the offset is in
--- them.
+-- The bytes have their first fault at the place, which gives the error; or they encode a value, and
+-- the offset is in them.
 abbrev pub IsLocatedIn : List ℕ → SliceError → Type 0
 IsLocatedIn bytes (Bytes located) =
     DecodeFails 256 bytes located.error × (¬ (located.error ≡ OutOfMemory) → IsPlaced located.place 256 bytes)
 IsLocatedIn bytes (Value fault) = ((t : Tree) × Spells 256 bytes t) × HasOffsetIn bytes fault
 
--- The bytes encode no value, and have their first fault at the place, unless a limit is exceeded or an
--- allocation failed; or they encode a value within the limits, and the offset is in them.
+-- The bytes encode no value, and have their first fault at the place, unless a limit is exceeded or
+-- an allocation failed; or they encode a value within the limits, and the offset is in them.
 abbrev pub IsLocatedWithin : Limits → List ℕ → SliceError → Type 0
 IsLocatedWithin limits bytes (Bytes located) =
     ¬ (located.error ≡ OutOfMemory) → ¬ (located.error ≡ TooLong) → ((t : Tree) → ¬ Spells 256 bytes t) × IsPlaced located.place 256 bytes

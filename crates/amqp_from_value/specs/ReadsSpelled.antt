@@ -1,5 +1,5 @@
--- What is read from encoded bytes, and which trees can be decoded from their encoding (AMQP 1.0 part
--- 1, sections 1.2 and 1.6).
+-- What is read from encoded bytes, and which trees can be decoded from their encoding (AMQP 1.0
+-- part 1, sections 1.2 and 1.6).
 use Rattle.std.specs.Prelude.{◌≡◌, ◌≤◌, ◌⊎◌, ℕ, List, Option, Some, None, true}
 use Rattle.std.specs.Io.KnownBytes.{Consumes}
 use Rattle.amqp_data.specs.declared.error.Error.{Error}
@@ -17,8 +17,8 @@ use Rattle.amqp_de.specs.Spelled.{ReadsSpelled}
 abbrev pub ReadsNext : {T : Type 0} → (Tree → T → Type 0) → Option (List ℕ) → Option (List ℕ) → T → Type 0
 ReadsNext R old new x = (bytes : List ℕ) × IsFrame bytes × Consumes old new bytes × ReadsSpelled R bytes x
 
--- The error is that of a reader without an encoded value; or one encoded value was consumed, and the
--- error is out of memory unless nothing is read from it.
+-- The error is that of a reader without an encoded value; or one encoded value was consumed, and
+-- the error is out of memory unless nothing is read from it.
 abbrev pub RefusesNext : {T : Type 0} → (Tree → T → Type 0) → Option (List ℕ) → Option (List ℕ) → ℕ → ℕ → Error → Type 0
 RefusesNext {T} R old new before after e =
     FrameRefuses old new before after (TakesIncomplete old new) (TakesMalformed old new) e

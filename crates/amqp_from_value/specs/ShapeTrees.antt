@@ -1,4 +1,5 @@
--- The trees of types that are written by the parts of a shape (AMQP 1.0 part 1, sections 1.1.2 and 1.4).
+-- The trees of types that are written by the parts of a shape (AMQP 1.0 part 1, sections 1.1.2 and
+-- 1.4).
 use Rattle.std.specs.Prelude.{ℕ, List, [], Option, Some}
 use Rattle.amqp_ser.specs.Composites.{as_described}
 use Rattle.amqp_ser.specs.Tree.{Tree, code}

@@ -22,8 +22,8 @@ use std::alloc::Global;
 ///
 /// # Errors
 /// Returns an error of `from_slice_with`: with the place that `decode_value_located` returns if the
-/// bytes encode no value, with the place that `from_slice_located` returns if the `T` cannot be read
-/// from the value, and without a place if a limit is exceeded or an allocation failed.
+/// bytes encode no value, with the place that `from_slice_located` returns if the `T` cannot be
+/// read from the value, and without a place if a limit is exceeded or an allocation failed.
 ///
 /// # Memory
 /// Allocates from `alloc` as `from_slice_with` does.

@@ -1,4 +1,5 @@
-//! Reading a type from bytes that says where the bytes have a fault, or which field could not be read.
+//! Reading a type from bytes that says where the bytes have a fault, or which field could not be
+//! read.
 
 ghost use Rattle.std.specs.Prelude.{◌≡◌, IfErr, MatchResult};
 ghost use Rattle.amqp_data.specs.declared.error.Error.TheVariants.{OutOfMemory};
@@ -65,12 +66,13 @@ impl error::Error for SliceError {}
 /// Reads a `T` from the bytes of exactly one encoded value, like `from_slice`, and says where the
 /// bytes have a fault, or which field could not be read.
 ///
-/// If reading in one pass fails, the bytes are decoded to an untyped value, from which the `T` is read.
+/// If reading in one pass fails, the bytes are decoded to an untyped value, from which the `T` is
+/// read.
 ///
 /// # Errors
-/// Returns an error of `from_slice`: with the place that `decode_value_located` returns if the bytes
-/// encode no value, and otherwise with the field that `from_value_located` returns, and the offset
-/// that `Fault::in_bytes` adds.
+/// Returns an error of `from_slice`: with the place that `decode_value_located` returns if the
+/// bytes encode no value, and otherwise with the field that `from_value_located` returns, and the
+/// offset that `Fault::in_bytes` adds.
 ///
 /// # Memory
 /// Allocates from `alloc` as `from_slice` does.

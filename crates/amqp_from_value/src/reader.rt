@@ -18,8 +18,8 @@ use std::alloc::Global;
 /// of `from_slice` for its bytes, which have then been consumed.
 ///
 /// # Memory
-/// Allocates the bytes of the encoded value from `alloc`, as `LazyValue::from_reader` does, and what
-/// `from_slice` allocates.
+/// Allocates the bytes of the encoded value from `alloc`, as `LazyValue::from_reader` does, and
+/// what `from_slice` allocates.
 ///
 /// # Example
 /// From `520540`, reads the `u32` 5, and `40` remains.
@@ -51,8 +51,8 @@ pub fn from_reader<T: Deserialize, R: Read>(alloc: Global, reader: &mut R) -> Re
 /// `from_slice_limited` allocates.
 ///
 /// # Example
-/// From `520540`, reads the `u32` 5 with the limit of 2 bytes, and `40` remains. With the limit of 1
-/// byte, it is too long, and `0540` remains.
+/// From `520540`, reads the `u32` 5 with the limit of 2 bytes, and `40` remains. With the limit of
+/// 1 byte, it is too long, and `0540` remains.
 pub fn from_reader_limited<T: Deserialize, R: Read>(
     alloc: Global,
     reader: &mut R,

@@ -25,4 +25,5 @@ pub mod Named
 pub mod Words
 pub mod Ends
 pub mod Extends
+pub mod Meant
 pub mod Untyped

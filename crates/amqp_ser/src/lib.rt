@@ -5,9 +5,7 @@
 //! serializing a value is the serializer's result for the tree of the value. This crate defines the
 //! traits, the compounds and the trees of Rust's own types. It does not write bytes.
 //!
-//! A serializer that declares compounds of its own, which are not generic, builds them from
-//! `feed_part`, `feed_entry`, `feed_descriptor`, `feed_single`, `feed_any`,
-//! `feed_tuple_field`, `open_body` and `end_fields`: each is one step of a compound, for any serializer and its open compound.
+//! `Pending` is what a serializer keeps before the next tree.
 #![tactic(auto)]
 
 mod calls;
@@ -23,6 +21,7 @@ mod marker;
 mod name;
 mod names;
 mod optional_field;
+mod pending;
 mod serialize;
 mod serializer;
 mod struct_encoding;
@@ -31,11 +30,6 @@ mod whole;
 pub use calls::compounds::SerializeCompounds;
 pub use calls::scalars::SerializeScalars;
 pub use composite::{ListOf, MapOf, SymbolMapOf, VariantOf};
-pub use compound::any_field::feed_any;
-pub use compound::body::{end_fields, open_body};
-pub use compound::described::{feed_descriptor, feed_single};
-pub use compound::feed::{feed_entry, feed_part};
-pub use compound::tuple_struct::feed_tuple_field;
 pub use compound::{
     Compound, SerializeMap, SerializeSeq, SerializeStruct, SerializeStructVariant, SerializeTuple,
     SerializeTupleStruct, SerializeTupleVariant,
@@ -46,8 +40,8 @@ pub use hint::Hint;
 pub use kind::CompoundKind;
 pub use marker::{Marker, marker_named};
 pub use name::Name;
-pub use names::is_descriptor_name;
 pub use optional_field::OptionalField;
+pub use pending::Pending;
 pub use serialize::Serialize;
 pub use serializer::Serializer;
 pub use struct_encoding::StructEncoding;

@@ -45,12 +45,12 @@ pub trait Whole {
         ensures { IfSome result (λ bytes. (writable (whole_tree self.now) ≡ true)
             × (bytes.items ≡ encoding (whole_tree self.now))) };
 
-    /// Like `whole_len`, and appends a hint for each compound, in the order in which they are opened.
-    /// No clause says that the hints are right.
+    /// Like `whole_len`, and appends a hint for each compound, in the order in which they are
+    /// opened. No clause says that the hints are right.
     ///
     /// # Example
-    /// The list of the strings `a` and `bc` has the length 10, and one hint, of a body of 7 bytes and
-    /// 2 parts.
+    /// The list of the strings `a` and `bc` has the length 10, and one hint, of a body of 7 bytes
+    /// and 2 parts.
     fn whole_hints(&self, hints: &mut Vec<Hint>) -> Option<usize>
         ensures measured { IfSome result (λ n. (within_limits (whole_tree self.now) ≡ true)
             × ((uniform_arrays (whole_tree self.now) ≡ true)

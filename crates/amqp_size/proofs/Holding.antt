@@ -6,9 +6,9 @@ use Rattle.amqp_ser.specs.Tree.{Tree}
 use Rattle.amqp_ser.specs.Compounds.{tree_of_parts}
 use Rattle.amqp_ser.specs.declared.kind.CompoundKind.{CompoundKind}
 use Rattle.amqp_ser.specs.declared.kind.CompoundKind.TheVariants as kinds
-use Rattle.amqp_size.specs.Position.{position_of, meant, without_prefix, is_array, is_gathered, limit_of}
+use Rattle.amqp_size.specs.Position.{position_of, meant, without_prefix, is_gathered}
 use Rattle.amqp_size.specs.SizeSerializer.{AtPosition, HoldsGathered, HoldsTransparent, HoldsSingle, Holding}
-use Rattle.amqp_size.specs.AddPart.{constructor_len_in, PassesLimit}
+use Rattle.amqp_size.specs.AddPart.{AddsPart}
 use Rattle.amqp_size.specs.WholePosition.{Root}
 use Rattle.amqp_size.specs.WholeContext.{Context}
 use Rattle.amqp_size.specs.WholeContext as context
@@ -59,26 +59,8 @@ refused_any start kind compound ps (inr (inl h)) p e after r others =
     refused_transparent start kind compound ps h p e after (subst (λ u. AtPosition (position_of u) (meant u p) (Err e) after) h.inner_context r) others
 refused_any start kind compound ps (inr (inr h)) p e after r others = refused_single start kind compound ps h p e after r others
 
--- What holds after a part is added or fails.
-pub record Taking (compound new : OpenCompound) (size : ℕ) (after : Context) (res : Result (Unit {0}) SizeError) : Type 0 where
-  pub position : new.position ≡ compound.position
-  pub resolved_kind : new.resolved_kind ≡ compound.resolved_kind
-  pub few : compound.count ≤ 4294967295 → new.count ≤ 4294967295
-  pub small : new.sum ≤ limit_of new.resolved_kind
-  pub kept : IfErr res (λ _. new ≡ compound)
-  pub before_last : is_gathered compound.resolved_kind ≡ true → IfOk res (λ _. new.before_last ≡ compound.sum)
-  pub gathered : is_gathered compound.resolved_kind ≡ true → MatchResult res
-      (λ _. (new.sum ≡ size + constructor_len_in (is_array compound.resolved_kind) compound.inner_context after + compound.sum) × ((new.count ≡ if is_array compound.resolved_kind then compound.count + 1 else compound.count) × (new.inner_context ≡ if is_array compound.resolved_kind then after else compound.inner_context)))
-      (λ e. (e ≡ error.TooLong) × PassesLimit (is_array compound.resolved_kind) compound.count (size + constructor_len_in (is_array compound.resolved_kind) compound.inner_context after + compound.sum))
-  pub transparent : compound.resolved_kind ≡ resolved_kinds.Transparent → MatchResult res
-      (λ _. (new.sum ≡ size + compound.sum) × (new.inner_context ≡ compound.inner_context))
-      (λ e. (e ≡ error.TooLong) × (18446744073709551615 < size + compound.sum))
-  pub single : compound.resolved_kind ≡ resolved_kinds.Single → MatchResult res
-      (λ _. (compound.count ≡ 0) × ((new.count ≡ 1) × ((new.sum ≡ size) × (new.inner_context ≡ after))))
-      (λ e. (e ≡ error.InvalidValue) × (1 ≤ compound.count))
-
 taken_joined : (start : SizeSerializer) (kind : CompoundKind) (compound new : OpenCompound) (ps : List (Option Tree)) → HoldsTransparent start kind compound ps → (p : Option Tree) (size : ℕ) (after : Context) → AtPosition Root p (Ok size) after →
-    (res : Result (Unit {0}) SizeError) → Taking compound new size after res →
+    (res : Result (Unit {0}) SizeError) → AddsPart compound new size after res →
     MatchResult res (λ _. Holding start kind new (ps ++ (p ∷ [])))
     (λ e. (others : List (Option Tree)) → AtPosition (position_of start.context) (meant start.context (tree_of_parts kind (ps ++ (p ∷ others)))) (Err e) (context.Plain (without_prefix compound.position)))
 taken_joined start kind compound new ps h None size after r res k = absurd r
@@ -91,7 +73,7 @@ taken_joined start kind compound new ps h (Some t) size after r (Err e) k = λ o
     (over_transparent start kind compound ps h t size r.len m.1 others)
 
 taken_one : (start : SizeSerializer) (kind : CompoundKind) (compound new : OpenCompound) (ps : List (Option Tree)) → HoldsSingle start kind compound ps → (p : Option Tree) (size : ℕ) (after : Context) → AtPosition (position_of compound.inner_context) (meant compound.inner_context p) (Ok size) after →
-    (res : Result (Unit {0}) SizeError) → Taking compound new size after res →
+    (res : Result (Unit {0}) SizeError) → AddsPart compound new size after res →
     MatchResult res (λ _. Holding start kind new (ps ++ (p ∷ [])))
     (λ e. (others : List (Option Tree)) → AtPosition (position_of start.context) (meant start.context (tree_of_parts kind (ps ++ (p ∷ others)))) (Err e) (context.Plain (without_prefix compound.position)))
 taken_one start kind compound new ps h p size after r (Ok u) k =
@@ -112,7 +94,7 @@ gathers start kind compound new ps p (Err e) m = m
 
 -- A part that is measured.
 pub taken_any : (start : SizeSerializer) (kind : CompoundKind) (compound new : OpenCompound) (ps : List (Option Tree)) → Holding start kind compound ps → (p : Option Tree) (size : ℕ) (after : Context) →
-    AtPosition (position_of compound.inner_context) (meant compound.inner_context p) (Ok size) after → (res : Result (Unit {0}) SizeError) → Taking compound new size after res →
+    AtPosition (position_of compound.inner_context) (meant compound.inner_context p) (Ok size) after → (res : Result (Unit {0}) SizeError) → AddsPart compound new size after res →
     MatchResult res (λ _. Holding start kind new (ps ++ (p ∷ [])))
     (λ e. (others : List (Option Tree)) → AtPosition (position_of start.context) (meant start.context (tree_of_parts kind (ps ++ (p ∷ others)))) (Err e) (context.Plain (without_prefix compound.position)))
 taken_any start kind compound new ps (inl h) p size after r res k =

@@ -1,6 +1,6 @@
 //! A compound that is being measured.
 
-ghost use Rattle.std.specs.Prelude.{◌≡◌, ◌<◌, ◌+◌, ◌≤◌, ℕ, Some, true, false, MatchResult, IfOk, IfErr, if◌then◌else◌};
+ghost use Rattle.std.specs.Prelude.{◌≡◌, ◌<◌, ◌+◌, ◌≤◌, Some, true, MatchResult, IfOk};
 ghost use Rattle.amqp_size.specs.Position.{limit_of};
 
 use crate::context::Context;
@@ -47,8 +47,8 @@ impl Model for OpenCompound {
 
 impl OpenCompound {
     ghost use Rattle.amqp_size.specs.State.{position_at, context_at};
-    ghost use Rattle.amqp_size.specs.AddPart.{constructor_len_in, PassesLimit, Undescribed};
-    ghost use Rattle.amqp_size.specs.Position.{position_of, without_prefix, is_array, is_gathered, inner_context_of, described_context};
+    ghost use Rattle.amqp_size.specs.AddPart.{AddsPart, constructor_len_in, PassesLimit, Undescribed};
+    ghost use Rattle.amqp_size.specs.Position.{position_of, without_prefix, inner_context_of, described_context};
 
     /// Returns an empty compound of this kind at this position.
     #[inline(always)]
@@ -146,34 +146,7 @@ impl OpenCompound {
     /// compound. The compound is then unchanged.
     #[inline(always)]
     pub(crate) fn add_part(&mut self, size: usize, after: Context) -> Result<(), SizeError>
-        ensures gathered { is_gathered self.old.resolved_kind ≡ true → MatchResult result
-            (λ _.
-            (self.new.sum ≡ size + constructor_len_in (is_array self.old.resolved_kind) self.old.inner_context
-            (context_at after self.old.prefix_len) + self.old.sum)
-            × ((self.new.count ≡ if is_array self.old.resolved_kind then self.old.count + 1
-            else self.old.count)
-            × (self.new.inner_context ≡ if is_array self.old.resolved_kind then context_at after self.old.prefix_len
-            else self.old.inner_context)))
-            (λ e. (e ≡ SizeError.TooLong)
-            × PassesLimit (is_array self.old.resolved_kind) self.old.count
-            (size + constructor_len_in (is_array self.old.resolved_kind) self.old.inner_context
-            (context_at after self.old.prefix_len)
-            + self.old.sum)) }
-        ensures transparent { self.old.resolved_kind ≡ ResolvedKind.Transparent → MatchResult result
-            (λ _. (self.new.sum ≡ size + self.old.sum) × (self.new.inner_context ≡ self.old.inner_context))
-            (λ e. (e ≡ SizeError.TooLong) × (18446744073709551615 < size + self.old.sum)) }
-        ensures single { self.old.resolved_kind ≡ ResolvedKind.Single → MatchResult result
-            (λ _. (self.old.count ≡ 0)
-            × ((self.new.count ≡ 1)
-            × ((self.new.sum ≡ size) × (self.new.inner_context ≡ context_at after self.old.prefix_len))))
-            (λ e. (e ≡ SizeError.InvalidValue) × (1 ≤ self.old.count)) }
-        ensures before_last { is_gathered self.old.resolved_kind ≡ true →
-            IfOk result (λ _. self.new.before_last ≡ self.old.sum) }
-        ensures kept { IfErr result (λ _. self.new ≡ self.old) }
-        ensures few { self.old.count ≤ 4294967295 → self.new.count ≤ 4294967295 }
-        ensures position { self.new.position ≡ self.old.position }
-        ensures resolved_kind { self.new.resolved_kind ≡ self.old.resolved_kind }
-        ensures small { self.new.sum ≤ limit_of self.new.resolved_kind }
+        ensures { AddsPart self.old self.new size (context_at after self.old.prefix_len) result }
     {
         match self.resolved_kind {
             ResolvedKind::Array => self.add_element(size, after),

@@ -42,7 +42,7 @@ impl SizeSerializer {
     /// Returns the size, at this position, of a writable tree with this constructor.
     ///
     /// `ordinary` is the length outside an array, and `wide` is the length of the payload in an
-    /// array. The serializer must have been reset.
+    /// array. The caller has called `clear_prefix`, or has set the same context.
     ///
     /// # Errors
     /// Returns `InvalidValue` if the position does not accept the tree: as an array element with

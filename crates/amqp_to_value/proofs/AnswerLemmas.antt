@@ -9,12 +9,13 @@ use Rattle.amqp_ser.specs.declared.marker.Marker.TheVariants as marker
 use Rattle.amqp_value.specs.TreeOf.{tree_of}
 use Rattle.amqp_value.specs.declared.value.Value.{Value}
 use Rattle.amqp_to_value.specs.PendingDescriptors.{DescriptorsState, under_descriptors, described_by, standing}
-use Rattle.amqp_to_value.specs.ValueSerializer.{IsSaved, IsFresh, IsKept, Leaves, described_none, meant_by, meant_none, ValuePermits}
-use Rattle.amqp_to_value.specs.ImageOf.{refuses, StandsFor}
-use Rattle.amqp_to_value.specs.PendingMarker.{meant}
+use Rattle.amqp_to_value.specs.ValueSerializer.{IsSaved, IsFresh, IsKept, Leaves, described_none, meant_by, ValuePermits}
+use Rattle.amqp_to_value.specs.ImageOf.{error_of, refuses, StandsFor}
+use Rattle.amqp_ser.specs.Meant.{meant, meant_none}
 use Rattle.amqp_to_value.specs.declared.next_capacity.NextCapacity.{NextCapacity}
-use Rattle.amqp_to_value.specs.declared.pending_marker.PendingMarker.TheVariants as pending
+use Rattle.amqp_ser.specs.declared.pending.Pending.TheVariants as pending
 use Rattle.amqp_to_value.specs.declared.serializer.Serializer.{Serializer}
+use Rattle.amqp_to_value.specs.declared.value_error.ValueError.{ValueError}
 use Rattle.amqp_to_value.proofs.PendingDescriptorLemmas.{refuses_in, standing_left, stands_in}
 use Rattle.amqp_to_value.proofs.LazyLemmas.{spoils}
 
@@ -28,18 +29,18 @@ finished start after t v w others ds e f fresh is none room d s = (
 )
 
 -- An error that is permitted for the tree is a permitted result.
-pub finished_not : (start after : Serializer) (t : Option Tree) (e : Error) (old : DescriptorsState) → old.kept ≡ start.descriptors.kept → standing old ≡ standing start.descriptors
-    → after.pending ≡ pending.Marker marker.Other → after.descriptors.kept ≡ old.kept → after.descriptors.later ≡ old.later → after.descriptors.next ≡ false → refuses e (meant start.pending t) → ValuePermits start t (Err e) after
+pub finished_not : (start after : Serializer) (t : Option Tree) (e : ValueError) (old : DescriptorsState) → old.kept ≡ start.descriptors.kept → standing old ≡ standing start.descriptors
+    → after.pending ≡ pending.Marker marker.Other → after.descriptors.kept ≡ old.kept → after.descriptors.later ≡ old.later → after.descriptors.next ≡ false → refuses (error_of e) (meant start.pending t) → ValuePermits start t (Err e) after
 finished_not start after t e old p q fresh is left none r =
     let more = standing_left old in
-    (refuses_in (standing start.descriptors) (meant start.pending t) e r, (((fresh, none), is ∙ p), (more.0, left ∙ more.1 ∙ ap (λ ds. ds ++ more.0) q)))
+    (refuses_in (standing start.descriptors) (meant start.pending t) (error_of e) r, (((fresh, none), is ∙ p), (more.0, left ∙ more.1 ∙ ap (λ ds. ds ++ more.0) q)))
 
 -- A result leaves the kept descriptors unchanged.
-pub kept_same : (ds : List Descriptor) (start after : Serializer) (r : Result Value Error) → start.descriptors.kept ≡ ds → Leaves start.descriptors.kept (standing start.descriptors) r after → IsKept ds after
+pub kept_same : (ds : List Descriptor) (start after : Serializer) (r : Result Value ValueError) → start.descriptors.kept ≡ ds → Leaves start.descriptors.kept (standing start.descriptors) r after → IsKept ds after
 kept_same ds start after (Ok v) h k = (k.0.0, k.0.1 ∙ h)
 kept_same ds start after (Err e) h k = (k.0.0, k.0.1 ∙ h)
 
-pub kept_on : (ds : List Descriptor) (start after : Serializer) (r : Result Value Error) → IsKept ds start → Leaves start.descriptors.kept (standing start.descriptors) r after → IsKept ds after
+pub kept_on : (ds : List Descriptor) (start after : Serializer) (r : Result Value ValueError) → IsKept ds start → Leaves start.descriptors.kept (standing start.descriptors) r after → IsKept ds after
 kept_on ds start after r h k = kept_same ds start after r h.1 k
 
 -- After a part, the descriptors of the compound are saved again.
@@ -51,7 +52,7 @@ pub aside_again : (start now : Serializer) (descriptors : DescriptorsState) (cap
     → (descriptors.kept ≡ start.descriptors.kept) × (descriptors.later ≡ standing start.descriptors ++ more) → IsSaved start (record { alloc = now.alloc; pending = now.pending; descriptors = descriptors; capacity = capacity })
 aside_again start now descriptors capacity more fresh next rel = (((fresh.0, next ∙ fresh.1), rel.0), (more, rel.1))
 
-pub saved_after : (start before now : Serializer) (descriptors : DescriptorsState) (capacity : NextCapacity) (r : Result Value Error) → before.descriptors.kept ≡ start.descriptors.kept ++ standing start.descriptors → Leaves before.descriptors.kept (standing before.descriptors) r now
+pub saved_after : (start before now : Serializer) (descriptors : DescriptorsState) (capacity : NextCapacity) (r : Result Value ValueError) → before.descriptors.kept ≡ start.descriptors.kept ++ standing start.descriptors → Leaves before.descriptors.kept (standing before.descriptors) r now
     → descriptors.next ≡ now.descriptors.next → ((rest : List Descriptor) → now.descriptors.kept ++ now.descriptors.later ≡ start.descriptors.kept ++ rest → (descriptors.kept ≡ start.descriptors.kept) × (descriptors.later ≡ rest))
     → IsSaved start (record { alloc = now.alloc; pending = now.pending; descriptors = descriptors; capacity = capacity })
 saved_after start before now descriptors capacity r same left next parted =

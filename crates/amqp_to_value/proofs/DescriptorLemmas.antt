@@ -10,10 +10,11 @@ use Rattle.amqp_value.specs.TreeOf.{tree_of}
 use Rattle.amqp_value.specs.declared.value.Value.{Value}
 use Rattle.amqp_to_value.specs.PendingDescriptors.{described_by, standing}
 use Rattle.amqp_to_value.specs.ValueSerializer.{IsKeepingDescriptor, Leaves, meant_by, ValuePermits}
-use Rattle.amqp_to_value.specs.ImageOf.{refuses, StandsFor, IsImageOf}
-use Rattle.amqp_to_value.specs.PendingMarker.{as_descriptor, meant}
-use Rattle.amqp_to_value.specs.declared.pending_marker.PendingMarker.{PendingMarker}
+use Rattle.amqp_to_value.specs.ImageOf.{refuses, StandsFor, Answers}
+use Rattle.amqp_ser.specs.Meant.{as_descriptor, meant}
+use Rattle.amqp_ser.specs.declared.pending.Pending.{Pending}
 use Rattle.amqp_to_value.specs.declared.serializer.Serializer.{Serializer}
+use Rattle.amqp_to_value.specs.declared.value_error.ValueError.{ValueError}
 use Rattle.amqp_to_value.proofs.AnswerLemmas.{none_refused, none_too}
 use Rattle.amqp_to_value.proofs.LazyLemmas.{read_refused}
 use Rattle.amqp_to_value.proofs.PendingDescriptorLemmas.{standing_none}
@@ -33,9 +34,9 @@ same_descriptor v (Some (scalar s)) h = scalar_descriptor v s h
 same_descriptor v (Some t) h = absurd h
 
 -- The result on a descriptor is permitted for `as_descriptor` of its tree.
-pub descriptor_answer : (start s : Serializer) (d : Option Tree) (r : Result Value Error) → IsKeepingDescriptor start s → IsImageOf (meant_by s d) r → IsImageOf (as_descriptor d) r
+pub descriptor_answer : (start s : Serializer) (d : Option Tree) (r : Result Value ValueError) → IsKeepingDescriptor start s → Answers (meant_by s d) r → Answers (as_descriptor d) r
 descriptor_answer start s d r keeping is =
-    subst (λ o. IsImageOf o r) (ap (λ ds. described_by ds (meant s.pending d)) (standing_none s.descriptors keeping.1) ∙ ap (λ u. meant u d) keeping.0) is
+    subst (λ o. Answers o r) (ap (λ ds. described_by ds (meant s.pending d)) (standing_none s.descriptors keeping.1) ∙ ap (λ u. meant u d) keeping.0) is
 
 -- If there is no descriptor, `InvalidValue` is permitted for the described value.
 pub no_descriptor : (start : Serializer) (d t : Option Tree) → descriptor_of d ≡ None → refuses error.InvalidValue (meant_by start (as_described (descriptor_of d) t))
@@ -59,7 +60,7 @@ described_by-last : (ds : List Descriptor) (d : Descriptor) (t : Option Tree) �
 described_by-last [] d t = refl
 described_by-last (e ∷ ds) d t = ap (as_described (Some e)) (described_by-last ds d t)
 
-leaves-prefix : (others own : List Descriptor) (d : Descriptor) (r : Result Value Error) (s : Serializer) → Leaves others (own ++ (d ∷ [])) r s → Leaves others own r s
+leaves-prefix : (others own : List Descriptor) (d : Descriptor) (r : Result Value ValueError) (s : Serializer) → Leaves others (own ++ (d ∷ [])) r s → Leaves others own r s
 leaves-prefix others own d (Ok v) s k =
     let sum : length (others ++ (own ++ (d ∷ []))) ≡ length (others ++ own) + 1 = ap length (sym (append_assoc others own (d ∷ []))) ∙ length-append (others ++ own) (d ∷ []) in
     let le = k.1 in
@@ -68,12 +69,12 @@ leaves-prefix others own d (Err e) s k = (k.0, ((d ∷ []) ++ k.1.0, k.1.1 ∙ a
 
 -- A result that is permitted after one more descriptor is permitted for the described value before
 -- it.
-pub permitted_before : (start : Serializer) (inner : PendingMarker) (x : Descriptor) (d t : Option Tree) (r : Result Value Error) (after : Serializer) → descriptor_of d ≡ Some x
+pub permitted_before : (start : Serializer) (inner : Pending) (x : Descriptor) (d t : Option Tree) (r : Result Value ValueError) (after : Serializer) → descriptor_of d ≡ Some x
     → as_described (Some x) (meant inner t) ≡ meant start.pending (as_described (Some x) t)
     → ValuePermits (record { alloc = start.alloc; pending = inner; descriptors = record { kept = start.descriptors.kept; later = standing start.descriptors ++ (x ∷ []); next = true; room = 0 }; capacity = start.capacity }) t r after
     → ValuePermits start (as_described (descriptor_of d) t) r after
 permitted_before start inner x d t r after is means p = (
-  subst (λ o. IsImageOf o r)
+  subst (λ o. Answers o r)
       (described_by-last (standing start.descriptors) x (meant inner t) ∙ ap (described_by (standing start.descriptors)) (means ∙ ap (λ o. meant start.pending (as_described o t)) (sym is))) p.0,
   leaves-prefix start.descriptors.kept (standing start.descriptors) x r after p.1,
 )

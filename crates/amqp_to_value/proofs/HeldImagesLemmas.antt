@@ -1,8 +1,6 @@
 -- Parts that are added one after another.
 use Rattle.std.proofs.Common.{◌≡◌, ℕ, List, [], ◌∷◌, ◌++◌, Option, Some, None, Result, Ok, Err, MatchResult, refl, ap, sym, ◌∙◌, subst}
 use Rattle.std.specs.declared.alloc.AllocError.{AllocError}
-use Rattle.amqp_data.specs.declared.error.Error.{Error}
-use Rattle.amqp_data.specs.declared.error.Error.TheVariants as error
 use Rattle.amqp_ser.specs.Tree.{Tree, Trees, Pairs, map, no_trees, more, no_pairs}
 use Rattle.amqp_ser.specs.Compounds.{all_trees, as_map, as_variant, prepend_pair, in_pairs, only}
 use Rattle.amqp_ser.proofs.Joins.{join, joined, all_trees-append}
@@ -10,6 +8,8 @@ use Rattle.amqp_value.specs.Image.{image, images, images_onto, insert_tree}
 use Rattle.amqp_value.specs.TreeOf.{tree_of, all_of}
 use Rattle.amqp_value.specs.declared.value.Value.{Value}
 use Rattle.amqp_to_value.specs.HeldImages.{then, feed, fed_onto, RefusesOpened, IsOpenedImage}
+use Rattle.amqp_to_value.specs.declared.value_error.ValueError.{ValueError}
+use Rattle.amqp_to_value.specs.declared.value_error.ValueError.TheVariants as error
 
 pub join_then : (ts : Trees) (t : Tree) → join ts (more t no_trees) ≡ then ts t
 join_then no_trees t = refl
@@ -63,19 +63,16 @@ not_ended (Some ps) h k e is = absurd (none-some k (sym (ap (λ x. x.1) e) ∙ i
 pub pending_end : (ts : Trees) (k : Tree) → (fed_onto ts no_pairs).1 ≡ Some k → RefusesOpened error.InvalidValue (as_map (in_pairs ts))
 pending_end ts k is = not_ended (in_pairs ts) (fed_onto ts no_pairs) k (ends ts no_pairs) is
 
-ended : (o : Option Pairs) (h : Pairs × Option Tree) (ps : Pairs) (r : Result Value Error) → Ends o h no_pairs → h ≡ (ps, None)
-    → MatchResult r (λ v. tree_of v ≡ map ps) (λ e. e ≡ error.OutOfMemory) → IsOpenedImage (as_map o) r
-ended None h ps r e is compound_tree = absurd (none-some e.0 (sym (ap (λ x. x.1) is) ∙ e.1))
+ended : (o : Option Pairs) (h : Pairs × Option Tree) (ps : Pairs) (v : Value) → Ends o h no_pairs → h ≡ (ps, None) → tree_of v ≡ map ps → IsOpenedImage (as_map o) (Ok v)
+ended None h ps v e is compound_tree = absurd (none-some e.0 (sym (ap (λ x. x.1) is) ∙ e.1))
   where
     none-some : (k : Tree) → None ≡ Some k → ⊥
     none-some k q = cc
-ended (Some qs) h ps (Ok v) e is compound_tree = compound_tree ∙ ap (λ x. map x.0) (sym is ∙ e)
-ended (Some qs) h ps (Err e) k is compound_tree = subst (λ x. RefusesOpened x (Some (map qs))) (sym compound_tree) tt
+ended (Some qs) h ps v e is compound_tree = compound_tree ∙ ap (λ x. map x.0) (sym is ∙ e)
 
--- The result for a map without a pending key.
-pub paired_end : (ts : Trees) (ps : Pairs) (r : Result Value Error) → fed_onto ts no_pairs ≡ (ps, None)
-    → MatchResult r (λ v. tree_of v ≡ map ps) (λ e. e ≡ error.OutOfMemory) → IsOpenedImage (as_map (in_pairs ts)) r
-paired_end ts ps r is compound_tree = ended (in_pairs ts) (fed_onto ts no_pairs) ps r (ends ts no_pairs) is compound_tree
+-- The value of a map without a pending key.
+pub paired_end : (ts : Trees) (ps : Pairs) (v : Value) → fed_onto ts no_pairs ≡ (ps, None) → tree_of v ≡ map ps → IsOpenedImage (as_map (in_pairs ts)) (Ok v)
+paired_end ts ps v is compound_tree = ended (in_pairs ts) (fed_onto ts no_pairs) ps v (ends ts no_pairs) is compound_tree
 
 even_end : (o : Option Pairs) (h : Pairs × Option Tree) (done ps : Pairs) → Ends o h done → o ≡ Some ps → h.1 ≡ None
 even_end None h done ps e is = absurd (none-some ps is)

@@ -12,12 +12,14 @@ use Rattle.amqp_ser.specs.declared.kind.CompoundKind.TheVariants as kinds
 use Rattle.amqp_ser.specs.declared.marker.Marker.{Marker}
 use Rattle.amqp_ser.specs.declared.marker.Marker.TheVariants as marker
 use Rattle.amqp_ser.proofs.Joins.{join, joined, all_trees-append, kind_none}
-use Rattle.amqp_to_value.specs.ImageOf.{IsFault, refuses}
+use Rattle.amqp_to_value.specs.ImageOf.{IsFault, error_of, refuses}
 use Rattle.amqp_to_value.specs.Opened.{Opened, AreOpened, HasOpenedPairs, IsUnreadable}
 use Rattle.amqp_to_value.specs.PendingDescriptors.{under_descriptors}
-use Rattle.amqp_to_value.specs.PendingMarker.{as_descriptor, meant}
-use Rattle.amqp_to_value.specs.declared.pending_marker.PendingMarker.{PendingMarker}
-use Rattle.amqp_to_value.specs.declared.pending_marker.PendingMarker.TheVariants as pending
+use Rattle.amqp_ser.specs.Meant.{as_descriptor, meant}
+use Rattle.amqp_ser.specs.declared.pending.Pending.{Pending}
+use Rattle.amqp_ser.specs.declared.pending.Pending.TheVariants as pending
+use Rattle.amqp_to_value.specs.declared.value_error.ValueError.{ValueError}
+use Rattle.amqp_to_value.specs.declared.value_error.ValueError.TheVariants as value_error
 
 -- There is no tree, or a lazy tree in it spells no value.
 abbrev pub Lacks : Option Tree → Type 0
@@ -134,7 +136,7 @@ descriptor_lacks (variant i t) h = tt
 descriptor_lacks (lazy bs) h = tt
 descriptor_lacks (transparent ts) h = tt
 
-pub meant_lacks : (u : PendingMarker) (o : Option Tree) → Lacks o → Lacks (meant u o)
+pub meant_lacks : (u : Pending) (o : Option Tree) → Lacks o → Lacks (meant u o)
 meant_lacks pending.Nothing o h = tt
 meant_lacks pending.Descriptor None h = tt
 meant_lacks pending.Descriptor (Some t) h = descriptor_lacks t h
@@ -142,7 +144,7 @@ meant_lacks (pending.Marker m) None h = tt
 meant_lacks (pending.Marker m) (Some t) h = marked_lacks m t h
 
 -- A compound is unreadable if a part is.
-pub part_lacks : (u : PendingMarker) (k : CompoundKind) (ps : List (Option Tree)) (t : Tree) (rest : List (Option Tree))
+pub part_lacks : (u : Pending) (k : CompoundKind) (ps : List (Option Tree)) (t : Tree) (rest : List (Option Tree))
     → IsUnreadable t → Lacks (meant u (tree_of_parts k (ps ++ (Some t ∷ rest))))
 unfolding tree_of_parts
 part_lacks u k ps t rest h =
@@ -155,12 +157,12 @@ frame_lacks true bs h = h
 frame_lacks false bs h = tt
 
 -- The error for bytes that were not decoded is permitted.
-pub lazy_refused : (bs : List ℕ) (e r : Error) → (e ≡ error.OutOfMemory → r ≡ error.OutOfMemory) → ((e ≡ error.OutOfMemory → ⊥) → IsFault r)
-    → ((e ≡ error.OutOfMemory → ⊥) → (t : Tree) → Spells 256 bs t → ⊥) → refuses r (of_frame bs)
-lazy_refused bs error.OutOfMemory r memory fault none = subst (λ x. refuses x (of_frame bs)) (sym (memory refl)) tt
-lazy_refused bs error.InvalidValue r memory fault none = let no : error.InvalidValue ≡ error.OutOfMemory → ⊥ = λ e. cc in faulted r (of_frame bs) (fault no) (frame_lacks (is_frame bs) bs (none no))
-lazy_refused bs error.InvalidFormatCode r memory fault none = let no : error.InvalidFormatCode ≡ error.OutOfMemory → ⊥ = λ e. cc in faulted r (of_frame bs) (fault no) (frame_lacks (is_frame bs) bs (none no))
-lazy_refused bs error.UnexpectedEof r memory fault none = let no : error.UnexpectedEof ≡ error.OutOfMemory → ⊥ = λ e. cc in faulted r (of_frame bs) (fault no) (frame_lacks (is_frame bs) bs (none no))
-lazy_refused bs error.TooLong r memory fault none = let no : error.TooLong ≡ error.OutOfMemory → ⊥ = λ e. cc in faulted r (of_frame bs) (fault no) (frame_lacks (is_frame bs) bs (none no))
-lazy_refused bs error.Io r memory fault none = let no : error.Io ≡ error.OutOfMemory → ⊥ = λ e. cc in faulted r (of_frame bs) (fault no) (frame_lacks (is_frame bs) bs (none no))
-lazy_refused bs (error.Message w) r memory fault none = let no : error.Message w ≡ error.OutOfMemory → ⊥ = λ e. cc in faulted r (of_frame bs) (fault no) (frame_lacks (is_frame bs) bs (none no))
+pub lazy_refused : (bs : List ℕ) (e : Error) (r : ValueError) → (e ≡ error.OutOfMemory → r ≡ value_error.OutOfMemory) → ((e ≡ error.OutOfMemory → ⊥) → IsFault (error_of r))
+    → ((e ≡ error.OutOfMemory → ⊥) → (t : Tree) → Spells 256 bs t → ⊥) → refuses (error_of r) (of_frame bs)
+lazy_refused bs error.OutOfMemory r memory fault none = subst (λ x. refuses (error_of x) (of_frame bs)) (sym (memory refl)) tt
+lazy_refused bs error.InvalidValue r memory fault none = let no : error.InvalidValue ≡ error.OutOfMemory → ⊥ = λ e. cc in faulted (error_of r) (of_frame bs) (fault no) (frame_lacks (is_frame bs) bs (none no))
+lazy_refused bs error.InvalidFormatCode r memory fault none = let no : error.InvalidFormatCode ≡ error.OutOfMemory → ⊥ = λ e. cc in faulted (error_of r) (of_frame bs) (fault no) (frame_lacks (is_frame bs) bs (none no))
+lazy_refused bs error.UnexpectedEof r memory fault none = let no : error.UnexpectedEof ≡ error.OutOfMemory → ⊥ = λ e. cc in faulted (error_of r) (of_frame bs) (fault no) (frame_lacks (is_frame bs) bs (none no))
+lazy_refused bs error.TooLong r memory fault none = let no : error.TooLong ≡ error.OutOfMemory → ⊥ = λ e. cc in faulted (error_of r) (of_frame bs) (fault no) (frame_lacks (is_frame bs) bs (none no))
+lazy_refused bs error.Io r memory fault none = let no : error.Io ≡ error.OutOfMemory → ⊥ = λ e. cc in faulted (error_of r) (of_frame bs) (fault no) (frame_lacks (is_frame bs) bs (none no))
+lazy_refused bs (error.Message w) r memory fault none = let no : error.Message w ≡ error.OutOfMemory → ⊥ = λ e. cc in faulted (error_of r) (of_frame bs) (fault no) (frame_lacks (is_frame bs) bs (none no))

@@ -1,16 +1,16 @@
 -- Trees whose lazy trees are read, and the compounds of such trees.
 use Rattle.std.proofs.Common.{◌≡◌, ℕ, List, [], ◌∷◌, Option, Some, None, Result, Ok, Err, refl, ap, sym, ◌∙◌, subst}
-use Rattle.amqp_data.specs.declared.error.Error.{Error}
-use Rattle.amqp_data.specs.declared.error.Error.TheVariants as error
 use Rattle.amqp_ser.specs.Tree.{Descriptor, Tree, Trees, Pairs, list, described, variant, no_trees, more, no_pairs}
 use Rattle.amqp_ser.specs.Compounds.{as_map, as_variant, in_pairs, prepend_pair, only}
 use Rattle.amqp_value.specs.declared.value.Value.{Value}
 use Rattle.amqp_to_value.specs.HeldImages.{then, compound_tree, IsOpenedImage}
-use Rattle.amqp_to_value.specs.ImageOf.{IsImageOf}
+use Rattle.amqp_to_value.specs.ImageOf.{Answers}
 use Rattle.amqp_to_value.specs.Opened.{Opened, AreOpened, HasOpenedPairs}
 use Rattle.amqp_to_value.specs.PendingDescriptors.{under_descriptors}
 use Rattle.amqp_to_value.specs.declared.parts.CollectedParts.{CollectedParts}
 use Rattle.amqp_to_value.specs.declared.parts.CollectedParts.TheVariants as compound
+use Rattle.amqp_to_value.specs.declared.value_error.ValueError.{ValueError}
+use Rattle.amqp_to_value.specs.declared.value_error.ValueError.TheVariants as error
 
 -- One more tree at the end.
 pub opened-then : (ts us : Trees) (t u : Tree) → AreOpened ts us → Opened t u → AreOpened (then ts t) (then us u)
@@ -86,7 +86,7 @@ compound_opened (compound.NewtypeVariant i v) ts us h = one_opened i ts us h
 compound_opened compound.Refused ts us h = tt
 
 -- A result that is permitted for the tree after it is read is permitted for the tree.
-pub opened_answer : (o q : Option Tree) (r : Result Value Error) → IsOpened o q → IsOpenedImage q r → IsImageOf o r
+pub opened_answer : (o q : Option Tree) (r : Result Value ValueError) → IsOpened o q → IsOpenedImage q r → Answers o r
 opened_answer None None (Ok v) h g = absurd g
 opened_answer None (Some u) (Ok v) h g = absurd h
 opened_answer (Some t) None (Ok v) h g = absurd h

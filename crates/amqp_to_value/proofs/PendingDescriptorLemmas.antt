@@ -15,6 +15,7 @@ use Rattle.amqp_to_value.specs.PendingDescriptors.{DescriptorsState, descriptors
 use Rattle.amqp_to_value.specs.ImageOf.{refuses, StandsFor}
 use Rattle.amqp_to_value.specs.Opened.{Opened}
 use Rattle.amqp_to_value.specs.ValueSerializer.{described_none}
+use Rattle.amqp_to_value.specs.declared.value_error.ValueError.{ValueError}
 use Rattle.amqp_to_value.proofs.LazyLemmas.{Lacks, spoils, unreadable_in}
 use Rattle.amqp_to_value.proofs.OpenedLemmas.{opened_in, opened_inside}
 
@@ -86,7 +87,7 @@ pub prefix : (bs cs : List (Box (Described Value) Global)) (ds later : List Desc
 prefix bs cs ds later n is e f = ap descriptors_of f ∙ (parted bs ds later n is e).0
 
 -- A value without its descriptors, which are pushed back onto the stack.
-pub put_again : (r : Result Value Error) (cs ns : List (Box (Described Value) Global)) (others own : List Descriptor) (t : Tree) (n : ℕ) (next : Bool) → descriptors_of cs ≡ others → n ≡ length others → next ≡ false
+pub put_again : (r : Result Value ValueError) (cs ns : List (Box (Described Value) Global)) (others own : List Descriptor) (t : Tree) (n : ℕ) (next : Bool) → descriptors_of cs ≡ others → n ≡ length others → next ≡ false
     → MatchResult r (λ v. (tree_of v ≡ t) × (descriptors_of ns ≡ descriptors_of cs ++ own)) (λ _. ⊥)
     → MatchResult r (λ v. (tree_of v ≡ t) × (descriptors_of (take n ns) ≡ others) × (descriptors_of (drop n ns) ≡ own) × (next ≡ false)) (λ _. ⊥)
 put_again (Ok v) cs ns others own t n next is e idle h = let all = parted ns others own n (h.1 ∙ ap (λ ds. ds ++ own) is) e in (h.0, all.0, all.1, idle)

@@ -1,6 +1,5 @@
 -- Scalars under a marker are read as themselves.
 use Rattle.std.proofs.Common.{ℕ, Bool, true, false, if◌then◌else◌, List, Option, Some, None, Result, refl}
-use Rattle.amqp_data.specs.declared.error.Error.{Error}
 use Rattle.amqp_ser.specs.Fixed.{fixed_scalar}
 use Rattle.amqp_ser.specs.Marked.{marked_scalar}
 use Rattle.amqp_ser.specs.Tree.{Scalar, Tree, scalar, binary, long, string, symbol, ulong}
@@ -10,10 +9,11 @@ use Rattle.amqp_ser.specs.declared.marker.Marker.{Marker}
 use Rattle.amqp_ser.specs.declared.marker.Marker.TheVariants as marker
 use Rattle.amqp_value.specs.declared.value.Value.{Value}
 use Rattle.amqp_to_value.specs.HeldImages.{IsOpenedImage}
-use Rattle.amqp_to_value.specs.ImageOf.{IsImageOf}
-use Rattle.amqp_to_value.specs.PendingMarker.{as_descriptor, meant}
-use Rattle.amqp_to_value.specs.declared.pending_marker.PendingMarker.{PendingMarker}
-use Rattle.amqp_to_value.specs.declared.pending_marker.PendingMarker.TheVariants as pending
+use Rattle.amqp_to_value.specs.ImageOf.{Answers}
+use Rattle.amqp_ser.specs.Meant.{as_descriptor, meant}
+use Rattle.amqp_ser.specs.declared.pending.Pending.{Pending}
+use Rattle.amqp_ser.specs.declared.pending.Pending.TheVariants as pending
+use Rattle.amqp_to_value.specs.declared.value_error.ValueError.{ValueError}
 use Rattle.amqp_to_value.proofs.OpenedLemmas.{IsOpened, opened_answer}
 
 -- A scalar, or none.
@@ -51,12 +51,12 @@ descriptor_is (ulong n) = tt
 descriptor_is (symbol bs) = tt
 descriptor_is s = tt
 
-meant_is : (u : PendingMarker) (s : Scalar) → IsNoBinary s → IsScalar (meant u (Some (scalar s)))
+meant_is : (u : Pending) (s : Scalar) → IsNoBinary s → IsScalar (meant u (Some (scalar s)))
 meant_is (pending.Marker m) s h = marked_is m s h
 meant_is pending.Descriptor s h = descriptor_is s
 meant_is pending.Nothing s h = tt
 
-pub scalar_answer : (u : PendingMarker) (s : Scalar) (r : Result Value Error) → IsNoBinary s → IsOpenedImage (meant u (Some (scalar s))) r → IsImageOf (meant u (Some (scalar s))) r
+pub scalar_answer : (u : Pending) (s : Scalar) (r : Result Value ValueError) → IsNoBinary s → IsOpenedImage (meant u (Some (scalar s))) r → Answers (meant u (Some (scalar s))) r
 scalar_answer u s r h g = opened_answer (meant u (Some (scalar s))) (meant u (Some (scalar s))) r (itself (meant u (Some (scalar s))) (meant_is u s h)) g
 
 no_binary : (f : Fixed) → IsNoBinary (fixed_scalar f)
@@ -74,8 +74,8 @@ no_binary (fixed.Float n) = tt
 no_binary (fixed.Double n) = tt
 no_binary (fixed.Char c) = tt
 
-pub fixed_answer : (u : PendingMarker) (f : Fixed) (r : Result Value Error) → IsOpenedImage (meant u (Some (scalar (fixed_scalar f)))) r → IsImageOf (meant u (Some (scalar (fixed_scalar f)))) r
+pub fixed_answer : (u : Pending) (f : Fixed) (r : Result Value ValueError) → IsOpenedImage (meant u (Some (scalar (fixed_scalar f)))) r → Answers (meant u (Some (scalar (fixed_scalar f)))) r
 fixed_answer u f r g = scalar_answer u (fixed_scalar f) r (no_binary f) g
 
-pub text_answer : (u : PendingMarker) (bs : List ℕ) (r : Result Value Error) → IsOpenedImage (meant u (Some (scalar (string bs)))) r → IsImageOf (meant u (Some (scalar (string bs)))) r
+pub text_answer : (u : Pending) (bs : List ℕ) (r : Result Value ValueError) → IsOpenedImage (meant u (Some (scalar (string bs)))) r → Answers (meant u (Some (scalar (string bs)))) r
 text_answer u bs r g = scalar_answer u (string bs) r tt g

@@ -1,8 +1,6 @@
 -- What an open compound contains, in terms of the trees that were serialized into it, after their
 -- lazy trees are read.
 use Rattle.std.specs.Prelude.{◌≡◌, Bool, true, false, Option, Some, None, Result, Ok, Err, option_map}
-use Rattle.amqp_data.specs.declared.error.Error.{Error}
-use Rattle.amqp_data.specs.declared.error.Error.TheVariants as error
 use Rattle.amqp_ser.specs.Tree.{Tree, Trees, Pairs, no_trees, more, no_pairs}
 use Rattle.amqp_ser.specs.Compounds.{as_kind}
 use Rattle.amqp_ser.specs.Marked.{with_marker}
@@ -16,6 +14,8 @@ use Rattle.amqp_value.specs.MapBuilder.{collected_pairs}
 use Rattle.amqp_to_value.specs.declared.open_map.OpenMap.{OpenMap}
 use Rattle.amqp_to_value.specs.declared.parts.CollectedParts.{CollectedParts}
 use Rattle.amqp_to_value.specs.declared.parts.CollectedParts.TheVariants as compound
+use Rattle.amqp_to_value.specs.declared.value_error.ValueError.{ValueError}
+use Rattle.amqp_to_value.specs.declared.value_error.ValueError.TheVariants as error
 
 -- These trees and one more at the end.
 abbrev pub then : Trees → Tree → Trees
@@ -67,12 +67,12 @@ compound_tree compound.Refused ts = None
 
 -- The errors that are permitted for a tree without lazy trees, or for none: out of memory for any,
 -- and invalid for none.
-abbrev pub RefusesOpened : Error → Option Tree → Type 0
+abbrev pub RefusesOpened : ValueError → Option Tree → Type 0
 RefusesOpened error.OutOfMemory t = Unit {0}
 RefusesOpened error.InvalidValue None = Unit {0}
 RefusesOpened e t = ⊥
 
-abbrev pub IsOpenedImage : Option Tree → Result Value Error → Type 0
+abbrev pub IsOpenedImage : Option Tree → Result Value ValueError → Type 0
 IsOpenedImage None (Ok v) = ⊥
 IsOpenedImage (Some t) (Ok v) = tree_of v ≡ image t
 IsOpenedImage t (Err e) = RefusesOpened e t

@@ -8,6 +8,8 @@ use Rattle.amqp_value.specs.Image.{image}
 use Rattle.amqp_value.specs.TreeOf.{tree_of}
 use Rattle.amqp_value.specs.declared.value.Value.{Value}
 use Rattle.amqp_to_value.specs.Opened.{Opened, IsUnreadable}
+use Rattle.amqp_to_value.specs.declared.value_error.ValueError.{ValueError}
+use Rattle.amqp_to_value.specs.declared.value_error.ValueError.TheVariants as value_error
 
 -- The value represents the tree: its tree is the image, after the lazy trees are read.
 abbrev pub StandsFor : Value → Option Tree → Type 0
@@ -33,3 +35,15 @@ refuses e (Some t) = IsFault e × IsUnreadable t
 abbrev pub IsImageOf : Option Tree → Result Value Error → Type 0
 IsImageOf t (Ok v) = StandsFor v t
 IsImageOf t (Err e) = refuses e t
+
+-- The error as which public functions return it.
+abbrev pub error_of : ValueError → Error
+error_of value_error.OutOfMemory = error.OutOfMemory
+error_of value_error.InvalidValue = error.InvalidValue
+error_of value_error.InvalidFormatCode = error.InvalidFormatCode
+error_of value_error.UnexpectedEof = error.UnexpectedEof
+
+-- Like `IsImageOf`, for a result of the serializer.
+abbrev pub Answers : Option Tree → Result Value ValueError → Type 0
+Answers t (Ok v) = StandsFor v t
+Answers t (Err e) = refuses (error_of e) t

@@ -5,8 +5,5 @@ pub mod PendingDescriptors
 pub mod HasLazy
 pub mod Opened
 pub mod ImageOf
-pub mod PendingMarker
 pub mod HeldImages
 pub mod ValueSerializer
-pub mod OpenCompounds
-pub mod OpenStructs

@@ -1,7 +1,6 @@
 -- The results that are permitted for the value serializer, and the contents of its open compounds.
 use Rattle.std.specs.Prelude.{◌≡◌, ◌≤◌, false, List, [], ◌∷◌, ◌++◌, length, Option, Some, None, Result, Ok, Err}
 use Rattle.std.proofs.Common.{refl, ap, ◌∙◌, subst}
-use Rattle.amqp_data.specs.declared.error.Error.{Error}
 use Rattle.amqp_ser.specs.Composites.{as_described}
 use Rattle.amqp_ser.specs.Tree.{Descriptor, Tree, Trees}
 use Rattle.amqp_ser.specs.Compounds.{all_trees, as_kind}
@@ -10,17 +9,18 @@ use Rattle.amqp_ser.specs.declared.kind.CompoundKind.TheVariants as kind
 use Rattle.amqp_ser.specs.declared.marker.Marker.TheVariants as marker
 use Rattle.amqp_value.specs.declared.value.Value.{Value}
 use Rattle.amqp_to_value.specs.PendingDescriptors.{saved_of, described_by, standing}
-use Rattle.amqp_to_value.specs.ImageOf.{IsImageOf, StandsFor}
+use Rattle.amqp_to_value.specs.ImageOf.{Answers, StandsFor}
 use Rattle.amqp_to_value.specs.Opened.{AreOpened}
-use Rattle.amqp_to_value.specs.PendingMarker.{meant}
+use Rattle.amqp_ser.specs.Meant.{meant, meant_none}
 use Rattle.amqp_to_value.specs.HeldImages.{HoldsImages, is_single, compound_tree}
-use Rattle.amqp_to_value.specs.declared.pending_marker.PendingMarker.{PendingMarker}
-use Rattle.amqp_to_value.specs.declared.pending_marker.PendingMarker.TheVariants as pending
+use Rattle.amqp_ser.specs.declared.pending.Pending.{Pending}
+use Rattle.amqp_ser.specs.declared.pending.Pending.TheVariants as pending
 use Rattle.amqp_to_value.specs.declared.open_value.OpenValue.{OpenValue}
 use Rattle.amqp_to_value.specs.declared.open_value.OpenBody.{OpenBody}
 use Rattle.amqp_to_value.specs.declared.open_value.OpenBody.TheVariants as body
 use Rattle.amqp_to_value.specs.declared.parts.CollectedParts.{CollectedParts}
 use Rattle.amqp_to_value.specs.declared.serializer.Serializer.{Serializer}
+use Rattle.amqp_to_value.specs.declared.value_error.ValueError.{ValueError}
 
 -- No marker and no descriptor is pending.
 abbrev pub IsFresh : Serializer → Type 0
@@ -44,15 +44,15 @@ IsLeft ds s = (more : List Descriptor) × (s.descriptors.later ≡ ds ++ more)
 
 -- The kept descriptors are unchanged. A value uses its own descriptors and leaves their capacity,
 -- and an error leaves the descriptors.
-abbrev pub Leaves : List Descriptor → List Descriptor → Result Value Error → Serializer → Type 0
+abbrev pub Leaves : List Descriptor → List Descriptor → Result Value ValueError → Serializer → Type 0
 Leaves others own (Ok v) s = IsKept others s × (length (others ++ own) ≤ s.descriptors.room)
 Leaves others own (Err e) s = IsKept others s × IsLeft own s
 
-abbrev pub ValuePermits : Serializer → Option Tree → Result Value Error → Serializer → Type 0
-ValuePermits s t r after = IsImageOf (meant_by s t) r × Leaves s.descriptors.kept (standing s.descriptors) r after
+abbrev pub ValuePermits : Serializer → Option Tree → Result Value ValueError → Serializer → Type 0
+ValuePermits s t r after = Answers (meant_by s t) r × Leaves s.descriptors.kept (standing s.descriptors) r after
 
 -- An open compound that contains these parts.
-pub record HoldsParts (pending : PendingMarker) (kind : CompoundKind) (compound : CollectedParts) (ps : List (Option Tree)) : Type 0 where
+pub record HoldsParts (pending : Pending) (kind : CompoundKind) (compound : CollectedParts) (ps : List (Option Tree)) : Type 0 where
   pub ts : Trees
   pub trees : all_trees ps ≡ Some ts
   -- The same trees, after their lazy trees are read.
@@ -62,7 +62,7 @@ pub record HoldsParts (pending : PendingMarker) (kind : CompoundKind) (compound 
   pub makes : (o : Option Trees) → meant pending (as_kind kind o) ≡ compound_tree compound o
 
 -- A single compound has no value and no part, or one part and its value.
-abbrev pub HasValue : PendingMarker → Option Value → List (Option Tree) → Type 0
+abbrev pub HasValue : Pending → Option Value → List (Option Tree) → Type 0
 HasValue u None [] = Unit {0}
 HasValue u None (p ∷ ps) = ⊥
 HasValue u (Some v) [] = ⊥
@@ -70,7 +70,7 @@ HasValue u (Some v) (p ∷ []) = StandsFor v (meant u p)
 HasValue u (Some v) (p ∷ (q ∷ ps)) = ⊥
 
 -- The compound, opened under this pending marker, can contain these parts.
-abbrev pub HasParts : PendingMarker → CompoundKind → OpenBody → List (Option Tree) → Type 0
+abbrev pub HasParts : Pending → CompoundKind → OpenBody → List (Option Tree) → Type 0
 HasParts u k (body.Single w v) ps = (k ≡ kind.Single) × (w ≡ u) × HasValue u v ps
 HasParts u k (body.CollectedParts parts) ps = (is_single k ≡ false) × HoldsParts u k parts ps
 
@@ -106,11 +106,6 @@ ValueAwaitsDescriptor start s compound = (compound.saved ≡ saved_of start.desc
 pub described_none : (ds : List Descriptor) → described_by ds None ≡ None
 described_none [] = refl
 described_none (d ∷ ds) = ap (as_described (Some d)) (described_none ds)
-
-pub meant_none : (u : PendingMarker) → meant u None ≡ None
-meant_none (pending.Marker m) = refl
-meant_none pending.Descriptor = refl
-meant_none pending.Nothing = refl
 
 -- If there is no tree, there is no value.
 pub no_value_of_none : (s : Serializer) (v : Value) (after : Serializer) → ValuePermits s None (Ok v) after → ⊥

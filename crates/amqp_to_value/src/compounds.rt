@@ -1,22 +1,66 @@
-//! The compounds of the value serializer.
-//!
-//! Each contains a reference to the serializer and the serializer's open compound. If serializing
-//! an element, key, value or field fails, the compound is unchanged and keeps accepting parts. The
-//! open compound is a type parameter, of which only the default is used: beside a field that owns
-//! memory, a contract would say nothing about the serializer after the compound ends.
+//! The open compounds of the value serializer: type aliases, and the forms of structs.
 
-mod kinds;
-mod map;
-mod sequence;
-mod struct_variant;
-mod structs;
-mod tuple_struct;
-mod variant;
+use crate::serializer::Serializer;
+use amqp_ser::{
+    SerializeMap, SerializeSeq, SerializeStruct, SerializeStructVariant, SerializeTuple,
+    SerializeTupleStruct, SerializeTupleVariant,
+};
+use amqp_value::Value;
 
-pub use kinds::{StructSerializerKind, TupleStructSerializerKind};
-pub use map::MapSerializer;
-pub use sequence::{SeqSerializer, TupleSerializer};
-pub use struct_variant::StructVariantSerializer;
-pub use structs::StructSerializer;
-pub use tuple_struct::TupleStructSerializer;
-pub use variant::VariantSerializer;
+/// A list that is being serialized to a value.
+pub type SeqSerializer<'a> = SerializeSeq<'a, Serializer>;
+
+/// A tuple that is being serialized to a value, as a list.
+pub type TupleSerializer<'a> = SerializeTuple<'a, Serializer>;
+
+/// A map that is being serialized to a value.
+pub type MapSerializer<'a> = SerializeMap<'a, Serializer>;
+
+/// A tuple struct that is being serialized to a value.
+pub type TupleStructSerializer<'a> = SerializeTupleStruct<'a, Serializer>;
+
+/// A struct that is being serialized to a value.
+pub type StructSerializer<'a> = SerializeStruct<'a, Serializer>;
+
+/// A variant with unnamed fields that is being serialized to a value.
+pub type VariantSerializer<'a> = SerializeTupleVariant<'a, Serializer>;
+
+/// A variant with named fields that is being serialized to a value.
+pub type StructVariantSerializer<'a> = SerializeStructVariant<'a, Serializer>;
+
+/// The forms of a struct that is being serialized to a value, after its descriptor.
+///
+/// # Example
+/// `StructSerializerKind::Map` of a map with the key `x` is the form of a struct named
+/// `DESCRIBED_MAP`.
+#[derive(Drop)]
+pub enum StructSerializerKind<'a> {
+    /// The one field itself.
+    Basic {
+        /// The serializer of the field.
+        se: &'a mut Serializer,
+        /// The value of the field, once it is serialized.
+        val: Option<Value>,
+    },
+    /// A list of the fields.
+    List(SeqSerializer<'a>),
+    /// A map from the names of the fields to their values.
+    Map(MapSerializer<'a>),
+}
+
+/// The forms of a tuple struct that is being serialized to a value, after its descriptor.
+///
+/// # Example
+/// `TupleStructSerializerKind::List` of an empty list is the form of a tuple struct without fields.
+#[derive(Drop)]
+pub enum TupleStructSerializerKind<'a> {
+    /// The one field itself.
+    Basic {
+        /// The serializer of the field.
+        se: &'a mut Serializer,
+        /// The value of the field, once it is serialized.
+        val: Option<Value>,
+    },
+    /// A list of the fields.
+    List(SeqSerializer<'a>),
+}

@@ -38,7 +38,7 @@ pub fn to_value<T: Serialize>(alloc: Global, value: &T) -> Result<Value, Error>
     ensures sound { IfOk result IsSound }
 {
     let mut serializer = Serializer::new(alloc);
-    value.serialize(&mut serializer)
+    Ok(value.serialize(&mut serializer)?)
 }
 
 /// A type to which any serializable value can be converted.

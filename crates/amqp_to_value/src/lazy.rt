@@ -4,8 +4,9 @@ ghost use Rattle.std.specs.Prelude.{◌≡◌, None, false, true};
 ghost use Rattle.amqp_frame.specs.Whole.{is_frame};
 ghost use Rattle.amqp_ser.specs.Marked.{of_frame};
 ghost use Rattle.amqp_to_value.specs.HeldImages.{IsOpenedImage};
-ghost use Rattle.amqp_to_value.specs.ImageOf.{IsFault, IsImageOf};
+ghost use Rattle.amqp_to_value.specs.ImageOf.{Answers, IsFault, error_of};
 
+use crate::value_error::ValueError;
 use amqp_data::Error;
 use amqp_decode::decode_value;
 use amqp_frame::is_frame;
@@ -15,11 +16,11 @@ use std::alloc::Global;
 /// Returns the value that the bytes spell, which must be one encoded value.
 ///
 /// # Errors
-/// Returns `Error::OutOfMemory` if an allocation fails. Otherwise returns `Error::InvalidValue` if
+/// Returns `OutOfMemory` if an allocation fails. Otherwise returns `InvalidValue` if
 /// the bytes are not one encoded value, and the error of `decode_value` if they spell no value.
 #[inline(never)]
-pub fn lazy_value(alloc: Global, bytes: &[u8]) -> Result<Value, Error>
-    ensures image { IsImageOf (of_frame bytes.now) result }
+pub fn lazy_value(alloc: Global, bytes: &[u8]) -> Result<Value, ValueError>
+    ensures image { Answers (of_frame bytes.now) result }
     ensures not_frame { is_frame bytes.now ≡ false → IsOpenedImage None result }
 {
     match decode_value(alloc, bytes) {
@@ -31,20 +32,22 @@ pub fn lazy_value(alloc: Global, bytes: &[u8]) -> Result<Value, Error>
 // Returns the error for bytes that were not decoded. `OutOfMemory` is unchanged. If the bytes are
 // one encoded value, `InvalidFormatCode` and `UnexpectedEof` are unchanged. Any other error becomes
 // `InvalidValue`.
-fn refusal(e: Error, bytes: &[u8]) -> Error
-    ensures memory { e ≡ Error.OutOfMemory → result ≡ Error.OutOfMemory }
-    ensures code { e ≡ Error.InvalidFormatCode → is_frame bytes.now ≡ true → result ≡ e }
-    ensures end { e ≡ Error.UnexpectedEof → is_frame bytes.now ≡ true → result ≡ e }
+fn refusal(e: Error, bytes: &[u8]) -> ValueError
+    ensures memory { e ≡ Error.OutOfMemory → result ≡ ValueError.OutOfMemory }
+    ensures code { e ≡ Error.InvalidFormatCode → is_frame bytes.now ≡ true →
+        result ≡ ValueError.InvalidFormatCode }
+    ensures end { e ≡ Error.UnexpectedEof → is_frame bytes.now ≡ true →
+        result ≡ ValueError.UnexpectedEof }
     ensures not_frame { ¬ (e ≡ Error.OutOfMemory) → is_frame bytes.now ≡ false →
-        result ≡ Error.InvalidValue }
+        result ≡ ValueError.InvalidValue }
     ensures other_errors { ¬ (e ≡ Error.OutOfMemory) → ¬ (e ≡ Error.InvalidFormatCode) →
-        ¬ (e ≡ Error.UnexpectedEof) → result ≡ Error.InvalidValue }
-    ensures fault { ¬ (e ≡ Error.OutOfMemory) → IsFault result }
+        ¬ (e ≡ Error.UnexpectedEof) → result ≡ ValueError.InvalidValue }
+    ensures fault { ¬ (e ≡ Error.OutOfMemory) → IsFault (error_of result) }
 {
     match e {
-        Error::OutOfMemory => Error::OutOfMemory,
-        Error::InvalidFormatCode if is_frame(bytes) => Error::InvalidFormatCode,
-        Error::UnexpectedEof if is_frame(bytes) => Error::UnexpectedEof,
-        _ => Error::InvalidValue,
+        Error::OutOfMemory => ValueError::OutOfMemory,
+        Error::InvalidFormatCode if is_frame(bytes) => ValueError::InvalidFormatCode,
+        Error::UnexpectedEof if is_frame(bytes) => ValueError::UnexpectedEof,
+        _ => ValueError::InvalidValue,
     }
 }

@@ -18,9 +18,9 @@ mod open_map;
 mod open_value;
 mod parts;
 mod pending_descriptors;
-mod pending_marker;
 mod scalars;
 mod serializer;
+mod value_error;
 
 pub use compounds::{
     MapSerializer, SeqSerializer, StructSerializer, StructSerializerKind, StructVariantSerializer,
@@ -28,3 +28,4 @@ pub use compounds::{
 };
 pub use image::{TryFromSerializable, to_value};
 pub use serializer::Serializer;
+pub use value_error::ValueError;

@@ -17,25 +17,25 @@ const MOST_OPEN: usize = 4;
 
 /// The capacity that is reserved for the next list, from those of the lists before it.
 ///
-/// A list grows from a capacity of 4 by doubling. If the last lists ended with the same capacity, as
-/// the rows of a table do, this capacity is reserved at the first element of the next one. If that
-/// list then needs half of it or less, the rest is freed when it ends, and twice as many equal lists
-/// must follow one another before a capacity is reserved again.
+/// A list grows from a capacity of 4 by doubling. If the last lists ended with the same capacity,
+/// as the rows of a table do, this capacity is reserved at the first element of the next one. If
+/// that list then needs half of it or less, the rest is freed when it ends, and twice as many equal
+/// lists must follow one another before a capacity is reserved again.
 ///
-/// A list that contains such lists may have few elements. Since it ends after them, few lists that are
-/// open together have a reserved capacity.
+/// A list that contains such lists may have few elements. Since it ends after them, few lists that
+/// are open together have a reserved capacity.
 #[derive(Clone, Copy)]
 pub struct NextCapacity {
     // The capacity for the next list, or 0 to let it grow.
     next: usize,
-    // The capacity of the last list, or 0 if it is less than `LEAST`; and the number of lists before
-    // it, one after another, that had the same.
+    // The capacity of the last list, or 0 if it is less than `LEAST`; and the number of lists
+    // before it, one after another, that had the same.
     last: usize,
     equal: usize,
     // The number of such lists that is needed to reserve a capacity.
     needed: usize,
-    // The number of lists that have a first element and did not end, from the first one on for which
-    // a capacity was reserved; 0 if there is none. Lists that are dropped count too.
+    // The number of lists that have a first element and did not end, from the first one on for
+    // which a capacity was reserved; 0 if there is none. Lists that are dropped count too.
     open: usize,
 }
 

@@ -6,7 +6,7 @@ ghost use Rattle.amqp_ser.specs.Compounds.{as_map, in_pairs};
 ghost use Rattle.amqp_value.specs.TreeOf.{tree_of};
 ghost use Rattle.amqp_to_value.specs.HeldImages.{held_pairs, feed, fed_onto, IsOpenedImage};
 
-use amqp_data::Error;
+use crate::value_error::ValueError;
 use amqp_value::{MapBuilder, Value};
 use std::alloc::{AllocError, Global};
 
@@ -66,16 +66,19 @@ impl OpenMap {
     /// Returns the map of the entries.
     ///
     /// # Errors
-    /// Returns `Error::InvalidValue` if a key is pending. Returns `Error::OutOfMemory` if an
+    /// Returns `InvalidValue` if a key is pending. Returns `OutOfMemory` if an
     /// allocation fails, which can happen only if the keys do not ascend.
     #[inline(never)]
-    pub fn into_value(self, alloc: Global) -> Result<Value, Error>
+    pub fn into_value(self, alloc: Global) -> Result<Value, ValueError>
         ensures { (ts : Trees) → held_pairs self ≡ fed_onto ts no_pairs →
             IsOpenedImage (as_map (in_pairs ts)) result }
     {
         match self.key {
-            Some(_) => Err(Error::InvalidValue),
-            None => self.pairs.into_value(alloc),
+            Some(_) => Err(ValueError::InvalidValue),
+            None => match self.pairs.into_value(alloc) {
+                Ok(value) => Ok(value),
+                Err(_) => Err(ValueError::OutOfMemory),
+            },
         }
     }
 }

@@ -7,16 +7,15 @@ ghost use Rattle.amqp_ser.specs.Tree.{Descriptor, Tree};
 ghost use Rattle.amqp_ser.specs.declared.kind.CompoundKind.{CompoundKind};
 ghost use Rattle.amqp_ser.specs.declared.kind.CompoundKind.TheVariants as kind;
 ghost use Rattle.amqp_to_value.specs.ValueSerializer.{HasParts};
-ghost use Rattle.amqp_to_value.specs.ImageOf.{IsImageOf};
-ghost use Rattle.amqp_to_value.specs.PendingMarker.{meant};
-ghost use Rattle.amqp_to_value.specs.declared.pending_marker.PendingMarker.{PendingMarker};
+ghost use Rattle.amqp_to_value.specs.ImageOf.{Answers};
+ghost use Rattle.amqp_ser.specs.Meant.{meant};
+ghost use Rattle.amqp_ser.specs.declared.pending.Pending.{Pending};
 
 use crate::next_capacity::NextCapacity;
 use crate::parts::CollectedParts;
 use crate::pending_descriptors::Saved;
-use crate::pending_marker::PendingMarker;
-use amqp_data::Error;
-use amqp_ser::CompoundKind;
+use crate::value_error::ValueError;
+use amqp_ser::{CompoundKind, Pending};
 use amqp_value::Value;
 use std::alloc::Global;
 
@@ -32,7 +31,7 @@ pub struct OpenValue {
 pub enum OpenBody {
     /// A single value that replaces the compound, and the marker pending when the compound was
     /// opened.
-    Single(PendingMarker, Option<Value>),
+    Single(Pending, Option<Value>),
     /// The parts from which the compound is built.
     CollectedParts(CollectedParts),
 }
@@ -40,7 +39,7 @@ pub enum OpenBody {
 impl OpenBody {
     /// Returns an empty compound of this kind under the pending marker.
     #[inline(always)]
-    pub fn new(alloc: Global, pending: PendingMarker, kind: CompoundKind) -> OpenBody
+    pub fn new(alloc: Global, pending: Pending, kind: CompoundKind) -> OpenBody
         ensures { HasParts pending kind result [] }
     {
         match kind {
@@ -52,8 +51,8 @@ impl OpenBody {
     /// Marks the value of a single compound as described.
     #[inline(always)]
     pub fn describe(&mut self)
-        ensures { (pending : PendingMarker) → HasParts pending kind.Single self.old [] →
-            (inner : PendingMarker) × HasParts inner kind.Single self.new []
+        ensures { (pending : Pending) → HasParts pending kind.Single self.old [] →
+            (inner : Pending) × HasParts inner kind.Single self.new []
             × ((d : Descriptor) (t : Option Tree) →
             as_described (Some d) (meant inner t) ≡ meant pending (as_described (Some d) t)) }
     {
@@ -65,7 +64,7 @@ impl OpenBody {
     /// Removes the pending key of a map.
     #[inline(always)]
     pub fn undo(&mut self)
-        ensures { (pending : PendingMarker) (ps : List (Option Tree)) (p : Option Tree) →
+        ensures { (pending : Pending) (ps : List (Option Tree)) (p : Option Tree) →
             HasParts pending kind.Map self.old (ps ++ (p ∷ [])) → paired ps ≡ true →
             HasParts pending kind.Map self.new ps }
     {
@@ -77,16 +76,16 @@ impl OpenBody {
     /// Returns the value of the compound.
     ///
     /// # Errors
-    /// Returns `Error::InvalidValue` if the parts do not form a value, and `Error::OutOfMemory` if
-    /// an allocation fails.
+    /// Returns `InvalidValue` if the parts do not form a value, and `OutOfMemory` if an allocation
+    /// fails.
     #[inline(always)]
-    pub fn into_value(self, alloc: Global, capacity: &mut NextCapacity) -> Result<Value, Error>
-        ensures { (pending : PendingMarker) (kind : CompoundKind) (ps : List (Option Tree)) →
+    pub fn into_value(self, alloc: Global, capacity: &mut NextCapacity) -> Result<Value, ValueError>
+        ensures { (pending : Pending) (kind : CompoundKind) (ps : List (Option Tree)) →
             HasParts pending kind self ps → complete kind ps ≡ true →
-            IsImageOf (meant pending (tree_of_parts kind ps)) result }
+            Answers (meant pending (tree_of_parts kind ps)) result }
     {
         match self {
-            OpenBody::Single(_, value) => value.ok_or(Error::InvalidValue),
+            OpenBody::Single(_, value) => value.ok_or(ValueError::InvalidValue),
             OpenBody::CollectedParts(parts) => parts.into_value(alloc, capacity),
         }
     }

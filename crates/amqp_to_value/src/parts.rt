@@ -6,13 +6,13 @@ ghost use Rattle.amqp_ser.specs.Compounds.{as_kind, in_pairs};
 ghost use Rattle.amqp_value.specs.Image.{image, variant_map};
 ghost use Rattle.amqp_value.specs.TreeOf.{tree_of};
 ghost use Rattle.amqp_to_value.specs.HeldImages.{HoldsImages, is_single, compound_tree, then, TakesPairs, IsOpenedImage};
-ghost use Rattle.amqp_to_value.specs.PendingMarker.{meant};
+ghost use Rattle.amqp_ser.specs.Meant.{meant};
 
 use crate::next_capacity::NextCapacity;
 use crate::open_map::OpenMap;
-use crate::pending_marker::PendingMarker;
-use amqp_data::{Array, Error, OrderedMap};
-use amqp_ser::{CompoundKind, Marker};
+use crate::value_error::ValueError;
+use amqp_data::{Array, OrderedMap};
+use amqp_ser::{CompoundKind, Marker, Pending};
 use amqp_value::Value;
 use std::alloc::{AllocError, Global};
 
@@ -36,29 +36,29 @@ pub enum CollectedParts {
 }
 
 impl CollectedParts {
-    /// Returns the empty parts of a compound of this kind, other than `CompoundKind::Single`, under a
-    /// marker.
+    /// Returns the empty parts of a compound of this kind, other than `CompoundKind::Single`, under
+    /// a marker.
     #[inline(always)]
-    pub fn new(alloc: Global, pending: PendingMarker, kind: CompoundKind) -> CollectedParts
+    pub fn new(alloc: Global, pending: Pending, kind: CompoundKind) -> CollectedParts
         ensures makes { is_single kind ≡ false → (o : Option Trees) →
             meant pending (as_kind kind o) ≡ compound_tree result o }
         ensures empty { HoldsImages result no_trees }
     {
         match (pending, kind) {
-            (PendingMarker::Marker(Marker::Other), CompoundKind::List) => CollectedParts::List(
-                Vec::new(alloc),
-            ),
-            (PendingMarker::Marker(Marker::Other), CompoundKind::Map) => CollectedParts::Map(
-                OpenMap::new(alloc),
-            ),
-            (PendingMarker::Marker(Marker::Other), CompoundKind::Variant(index)) =>
+            (Pending::Marker(Marker::Other), CompoundKind::List) => CollectedParts::List(Vec::new(
+                alloc,
+            )),
+            (Pending::Marker(Marker::Other), CompoundKind::Map) => CollectedParts::Map(OpenMap::new(
+                alloc,
+            )),
+            (Pending::Marker(Marker::Other), CompoundKind::Variant(index)) =>
                 CollectedParts::Variant(index, Vec::new(alloc)),
-            (PendingMarker::Marker(Marker::Other), CompoundKind::NewtypeVariant(index)) =>
+            (Pending::Marker(Marker::Other), CompoundKind::NewtypeVariant(index)) =>
                 CollectedParts::NewtypeVariant(index, Vec::new(alloc)),
-            (PendingMarker::Marker(Marker::Array), CompoundKind::List) => CollectedParts::Array(
-                Vec::new(alloc),
-            ),
-            (PendingMarker::Marker(Marker::Transparent), CompoundKind::List) =>
+            (Pending::Marker(Marker::Array), CompoundKind::List) => CollectedParts::Array(Vec::new(
+                alloc,
+            )),
+            (Pending::Marker(Marker::Transparent), CompoundKind::List) =>
                 CollectedParts::Transparent(Vec::new(alloc)),
             _ => CollectedParts::Refused,
         }
@@ -106,10 +106,10 @@ impl CollectedParts {
     /// Returns the value of the compound.
     ///
     /// # Errors
-    /// Returns `Error::InvalidValue` if the parts do not form a value, and `Error::OutOfMemory` if
-    /// an allocation fails.
+    /// Returns `InvalidValue` if the parts do not form a value, and `OutOfMemory` if an allocation
+    /// fails.
     #[inline(always)]
-    pub fn into_value(self, alloc: Global, capacity: &mut NextCapacity) -> Result<Value, Error>
+    pub fn into_value(self, alloc: Global, capacity: &mut NextCapacity) -> Result<Value, ValueError>
         ensures { (ts : Trees) → HoldsImages self ts →
             IsOpenedImage (compound_tree self (Some ts)) result }
     {
@@ -125,7 +125,7 @@ impl CollectedParts {
     // Returns the value of the compound. Never inlined: lists, which are the most frequent, have a
     // shorter path.
     #[inline(never)]
-    fn into_other(self, alloc: Global, capacity: &mut NextCapacity) -> Result<Value, Error>
+    fn into_other(self, alloc: Global, capacity: &mut NextCapacity) -> Result<Value, ValueError>
         ensures { (ts : Trees) → HoldsImages self ts →
             IsOpenedImage (compound_tree self (Some ts)) result }
     {
@@ -137,9 +137,9 @@ impl CollectedParts {
             CollectedParts::Variant(index, items) => variant(alloc, index, Value::List(items)),
             CollectedParts::NewtypeVariant(index, items) => match only(items) {
                 Some(payload) => variant(alloc, index, payload),
-                None => Err(Error::InvalidValue),
+                None => Err(ValueError::InvalidValue),
             },
-            CollectedParts::Refused => Err(Error::InvalidValue),
+            CollectedParts::Refused => Err(ValueError::InvalidValue),
         }
     }
 }
@@ -196,10 +196,10 @@ fn only(mut items: Vec<Value>) -> Option<Value>
 
 // Returns the map of one entry that represents a variant.
 #[inline(never)]
-fn variant(alloc: Global, index: u32, payload: Value) -> Result<Value, Error>
+fn variant(alloc: Global, index: u32, payload: Value) -> Result<Value, ValueError>
     ensures { MatchResult result
         (λ v. tree_of v ≡ variant_map index (tree_of payload))
-        (λ e. e ≡ Error.OutOfMemory) }
+        (λ e. e ≡ ValueError.OutOfMemory) }
 {
     let mut pairs = Vec::new(alloc);
     pairs.push((Value::Uint(index), payload))?;

@@ -6,7 +6,8 @@ ghost use Rattle.amqp_ser.specs.Tree.{Descriptor as Content, Tree};
 ghost use Rattle.amqp_value.specs.TreeOf.{tree_of};
 ghost use Rattle.amqp_to_value.specs.PendingDescriptors.{DescriptorsState, saved_of, descriptors_of, under_descriptors, standing};
 
-use amqp_data::{Described, Descriptor, Error};
+use crate::value_error::ValueError;
+use amqp_data::{Described, Descriptor};
 use amqp_value::Value;
 use std::alloc::Global;
 use std::marker::Model;
@@ -117,14 +118,14 @@ impl PendingDescriptors {
     /// ones.
     ///
     /// # Errors
-    /// Returns `Error::OutOfMemory` if an allocation fails.
+    /// Returns `OutOfMemory` if an allocation fails.
     #[inline(always)]
     pub fn describe(
         &mut self,
         saved: Saved,
         alloc: Global,
         descriptor: Descriptor,
-    ) -> Result<Saved, Error>
+    ) -> Result<Saved, ValueError>
         ensures { (others own later : List Content) → self.old.kept ≡ others →
             self.old.later ≡ own ++ later → self.old.next ≡ false → saved ≡ saved_of others own →
             MatchResult result
@@ -132,7 +133,7 @@ impl PendingDescriptors {
             × (self.new.kept ≡ others)
             × (self.new.later ≡ own ++ (descriptor_content descriptor ∷ []))
             × (self.new.next ≡ false))
-            (λ e. (e ≡ Error.OutOfMemory) × (self.new.kept ≡ others) × (more : List Content)
+            (λ e. (e ≡ ValueError.OutOfMemory) × (self.new.kept ≡ others) × (more : List Content)
             × (self.new.later ≡ own ++ more) × (self.new.next ≡ false)) }
     {
         let described = Box::new(
@@ -187,7 +188,7 @@ impl PendingDescriptors {
     /// # Errors
     /// None if the value has the saved descriptors and the stack has capacity for them.
     #[inline(always)]
-    pub fn unwrap(&mut self, saved: Saved, value: Value) -> Result<Value, Error>
+    pub fn unwrap(&mut self, saved: Saved, value: Value) -> Result<Value, ValueError>
         ensures { (others own : List Content) (t : Tree) → self.old.kept ≡ others →
             self.old.next ≡ false → saved ≡ saved_of others own →
             length (others ++ own) ≤ self.old.room → tree_of value ≡ under_descriptors own t →
@@ -230,7 +231,7 @@ fn unwrap_from(
     stack: &mut Vec<Box<Described<Value>>>,
     count: usize,
     value: Value,
-) -> Result<Value, Error>
+) -> Result<Value, ValueError>
     ensures { (ds : List Content) (t : Tree) → count ≡ length ds →
         vec_len stack.old + count ≤ vec_capacity stack.old →
         tree_of value ≡ under_descriptors ds t →
@@ -242,7 +243,7 @@ fn unwrap_from(
     let mut value = value;
     for _ in 0..count {
         let Value::Described(mut described) = value else {
-            return Err(Error::InvalidValue);
+            return Err(ValueError::InvalidValue);
         };
         value = mem::replace(&mut described.value, Value::Null);
         stack.push(described)?;

@@ -7,15 +7,15 @@ ghost use Rattle.amqp_ser.specs.Tree.{scalar, binary, string};
 ghost use Rattle.amqp_ser.specs.Fixed.{fixed_scalar};
 ghost use Rattle.amqp_value.specs.TreeOf.{tree_of};
 ghost use Rattle.amqp_to_value.specs.HeldImages.{IsOpenedImage};
-ghost use Rattle.amqp_to_value.specs.ImageOf.{IsImageOf};
-ghost use Rattle.amqp_to_value.specs.PendingMarker.{meant};
+ghost use Rattle.amqp_to_value.specs.ImageOf.{Answers};
+ghost use Rattle.amqp_ser.specs.Meant.{meant};
 
 use crate::lazy::lazy_value;
-use crate::pending_marker::PendingMarker;
+use crate::value_error::ValueError;
 use amqp_data::{
-    ByteBuf, Dec32, Dec64, Dec128, Descriptor, Error, F32Bits, F64Bits, Symbol, Timestamp, Uuid,
+    ByteBuf, Dec32, Dec64, Dec128, Descriptor, F32Bits, F64Bits, Symbol, Timestamp, Uuid,
 };
-use amqp_ser::{Fixed, Marker};
+use amqp_ser::{Fixed, Marker, Pending};
 use amqp_value::Value;
 use std::alloc::Global;
 
@@ -47,96 +47,103 @@ pub fn fixed_value(fixed: Fixed) -> Value
 /// Returns the value of a scalar of fixed width under a marker.
 ///
 /// # Errors
-/// Returns `Error::InvalidValue` if the marker does not permit the scalar.
+/// Returns `InvalidValue` if the marker does not permit the scalar.
 ///
 /// # Example
 /// Under `Marker::Timestamp`, the long 13 gives `Value::Timestamp` of 13 milliseconds, and `true`
 /// gives `InvalidValue`.
 #[inline(always)]
-pub fn marked_fixed(pending: PendingMarker, fixed: Fixed) -> Result<Value, Error>
+pub fn marked_fixed(pending: Pending, fixed: Fixed) -> Result<Value, ValueError>
     ensures image { IsOpenedImage (meant pending (Some (scalar (fixed_scalar fixed)))) result }
-    ensures invalid { IfErr result (λ e. e ≡ Error.InvalidValue) }
+    ensures invalid { IfErr result (λ e. e ≡ ValueError.InvalidValue) }
 {
     match (pending, fixed) {
-        (PendingMarker::Marker(Marker::Other), fixed) => Ok(fixed_value(fixed)),
-        (PendingMarker::Marker(Marker::Timestamp), Fixed::Long(v)) => Ok(Value::Timestamp(
-            Timestamp::from(v),
-        )),
-        (PendingMarker::Descriptor, Fixed::Ulong(v)) => Ok(Value::Ulong(v)),
-        _ => Err(Error::InvalidValue),
+        (Pending::Marker(Marker::Other), fixed) => Ok(fixed_value(fixed)),
+        (Pending::Marker(Marker::Timestamp), Fixed::Long(v)) => Ok(Value::Timestamp(Timestamp::from(
+            v,
+        ))),
+        (Pending::Descriptor, Fixed::Ulong(v)) => Ok(Value::Ulong(v)),
+        _ => Err(ValueError::InvalidValue),
     }
 }
 
 /// Returns the value of a text under a marker.
 ///
 /// # Errors
-/// Returns `Error::InvalidValue` if the marker does not permit a text, and `Error::OutOfMemory` if
-/// an allocation fails.
+/// Returns `InvalidValue` if the marker does not permit a text, and `OutOfMemory` if an allocation
+/// fails.
 ///
 /// # Example
 /// `a` gives a `Value::Symbol` under `Marker::Symbol`, and a `Value::String` under `Marker::Other`.
 #[inline(always)]
-pub fn marked_text(alloc: Global, pending: PendingMarker, text: &str) -> Result<Value, Error>
+pub fn marked_text(alloc: Global, pending: Pending, text: &str) -> Result<Value, ValueError>
     ensures image { IsOpenedImage (meant pending (Some (scalar (string text.now)))) result }
-    ensures invalid { ¬ (pending ≡ PendingMarker.Marker Marker.Other) →
-        ¬ (pending ≡ PendingMarker.Marker Marker.Symbol) →
-        IfErr result (λ e. e ≡ Error.InvalidValue) }
+    ensures invalid { ¬ (pending ≡ Pending.Marker Marker.Other) →
+        ¬ (pending ≡ Pending.Marker Marker.Symbol) →
+        IfErr result (λ e. e ≡ ValueError.InvalidValue) }
 {
     match pending {
-        PendingMarker::Marker(Marker::Other) => Ok(Value::String(String::from_str(alloc, text)?)),
-        PendingMarker::Marker(Marker::Symbol) => Ok(Value::Symbol(Symbol::try_from_str(
+        Pending::Marker(Marker::Other) => Ok(Value::String(String::from_str(alloc, text)?)),
+        Pending::Marker(Marker::Symbol) => Ok(Value::Symbol(Symbol::from(String::from_str(
             alloc, text,
-        )?)),
-        _ => Err(Error::InvalidValue),
+        )?))),
+        _ => Err(ValueError::InvalidValue),
     }
 }
 
 /// Returns the value of a binary under a marker.
 ///
 /// # Errors
-/// Returns `Error::InvalidValue` if the marker does not permit a binary, or one of this length, and
-/// `Error::OutOfMemory` if an allocation fails. Under `Marker::Lazy`, returns the errors of
-/// `lazy_value`.
+/// Returns `InvalidValue` if the marker does not permit a binary, or one of this length, and
+/// `OutOfMemory` if an allocation fails. Under `Marker::Lazy`, returns the errors of `lazy_value`.
 ///
 /// # Example
 /// Under `Marker::Decimal32`, 4 bytes give a `Value::Decimal32` of them, and 5 give `InvalidValue`.
 #[inline(never)]
-pub fn marked_bytes(alloc: Global, pending: PendingMarker, bytes: &[u8]) -> Result<Value, Error>
-    ensures image { IsImageOf (meant pending (Some (scalar (binary bytes.now)))) result }
-    ensures not_lazy { ¬ (pending ≡ PendingMarker.Marker Marker.Lazy) →
+pub fn marked_bytes(alloc: Global, pending: Pending, bytes: &[u8]) -> Result<Value, ValueError>
+    ensures image { Answers (meant pending (Some (scalar (binary bytes.now)))) result }
+    ensures not_lazy { ¬ (pending ≡ Pending.Marker Marker.Lazy) →
         IsOpenedImage (meant pending (Some (scalar (binary bytes.now)))) result }
 {
     match pending {
-        PendingMarker::Marker(Marker::Other) => Ok(Value::Binary(ByteBuf::from(bytes.to_vec(
-            alloc,
-        )?))),
-        PendingMarker::Marker(Marker::Decimal32) => Ok(Value::Decimal32(Dec32::try_from(bytes)?)),
-        PendingMarker::Marker(Marker::Decimal64) => Ok(Value::Decimal64(Dec64::try_from(bytes)?)),
-        PendingMarker::Marker(Marker::Decimal128) => Ok(Value::Decimal128(Dec128::try_from(
-            bytes,
-        )?)),
-        PendingMarker::Marker(Marker::Uuid) => Ok(Value::Uuid(Uuid::try_from(bytes)?)),
-        PendingMarker::Marker(Marker::Lazy) => lazy_value(alloc, bytes),
-        _ => Err(Error::InvalidValue),
+        Pending::Marker(Marker::Other) => Ok(Value::Binary(ByteBuf::from(bytes.to_vec(alloc)?))),
+        Pending::Marker(Marker::Decimal32) => match Dec32::try_from(bytes) {
+            Ok(v) => Ok(Value::Decimal32(v)),
+            Err(_) => Err(ValueError::InvalidValue),
+        },
+        Pending::Marker(Marker::Decimal64) => match Dec64::try_from(bytes) {
+            Ok(v) => Ok(Value::Decimal64(v)),
+            Err(_) => Err(ValueError::InvalidValue),
+        },
+        Pending::Marker(Marker::Decimal128) => match Dec128::try_from(bytes) {
+            Ok(v) => Ok(Value::Decimal128(v)),
+            Err(_) => Err(ValueError::InvalidValue),
+        },
+        Pending::Marker(Marker::Uuid) => match Uuid::try_from(bytes) {
+            Ok(v) => Ok(Value::Uuid(v)),
+            Err(_) => Err(ValueError::InvalidValue),
+        },
+        Pending::Marker(Marker::Lazy) => lazy_value(alloc, bytes),
+        _ => Err(ValueError::InvalidValue),
     }
 }
 
 /// Converts a value to a descriptor: a symbol to a name, and a ulong to a code.
 ///
 /// # Errors
-/// Returns `Error::InvalidValue` if the value is neither.
+/// Returns `InvalidValue` if the value is neither.
 ///
 /// # Example
 /// The ulong 1 gives `Descriptor::Code(1)`, and the uint 1 gives `InvalidValue`.
 #[inline(never)]
-pub fn descriptor_from(value: Value) -> Result<Descriptor, Error>
+pub fn descriptor_from(value: Value) -> Result<Descriptor, ValueError>
     ensures { MatchResult result
         (λ d. descriptor_of (Some (tree_of value)) ≡ Some (descriptor_content d))
-        (λ e. (descriptor_of (Some (tree_of value)) ≡ None) × (e ≡ Error.InvalidValue)) }
+        (λ e. (descriptor_of (Some (tree_of value)) ≡ None) × (e ≡ ValueError.InvalidValue)) }
 {
     match value {
         Value::Symbol(name) => Ok(Descriptor::Name(name)),
         Value::Ulong(code) => Ok(Descriptor::Code(code)),
-        _ => Err(Error::InvalidValue),
+        _ => Err(ValueError::InvalidValue),
     }
 }

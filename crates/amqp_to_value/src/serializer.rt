@@ -4,17 +4,16 @@ ghost use Rattle.std.specs.Prelude.{◌≡◌, ◌++◌, [], Option, Result, Err
 ghost use Rattle.amqp_ser.specs.Tree.{Tree};
 ghost use Rattle.amqp_to_value.specs.PendingDescriptors.{standing};
 ghost use Rattle.amqp_to_value.specs.ValueSerializer.{IsFresh, ValuePermits};
-ghost use Rattle.amqp_to_value.specs.ImageOf.{IsImageOf};
-ghost use Rattle.amqp_to_value.specs.PendingMarker.{meant};
+ghost use Rattle.amqp_to_value.specs.ImageOf.{Answers};
+ghost use Rattle.amqp_ser.specs.Meant.{meant};
 
 use crate::next_capacity::NextCapacity;
 use crate::open_value::{OpenBody, OpenValue, set_first};
 use crate::parts::let_go;
 use crate::pending_descriptors::PendingDescriptors;
-use crate::pending_marker::PendingMarker;
 use crate::scalars::{descriptor_from, marked_bytes, marked_fixed, marked_text};
-use amqp_data::Error;
-use amqp_ser::{CompoundKind, Fixed, Marker};
+use crate::value_error::ValueError;
+use amqp_ser::{CompoundKind, Fixed, Marker, Pending};
 use amqp_value::Value;
 use std::alloc::Global;
 use std::mem;
@@ -24,13 +23,16 @@ use std::mem;
 /// After each call, failed or not, no marker or descriptor is pending. A binary under the marker
 /// `LAZY_VALUE` must be one encoded value; it becomes the value that its bytes spell.
 ///
+/// # Errors
+/// Methods return a [`ValueError`] of one byte, which `?` converts to `Error`.
+///
 /// # Memory
 /// Between calls, keeps the capacity that described values needed and the descriptors of one failed
 /// value. These descriptors are dropped when the next compound is opened, or with the serializer.
 #[derive(Drop)]
 pub struct Serializer {
     alloc: Global,
-    pending: PendingMarker,
+    pending: Pending,
     descriptors: PendingDescriptors,
     capacity: NextCapacity,
 }
@@ -46,7 +48,7 @@ impl Serializer {
     {
         Serializer {
             alloc,
-            pending: PendingMarker::Marker(Marker::Other),
+            pending: Pending::Marker(Marker::Other),
             descriptors: PendingDescriptors::new(alloc),
             capacity: NextCapacity::new(),
         }
@@ -54,22 +56,22 @@ impl Serializer {
 
     // Returns the pending marker of the next tree, and clears it.
     #[inline(always)]
-    fn take_pending(&mut self) -> PendingMarker
+    fn take_pending(&mut self) -> Pending
         ensures pending { result ≡ self.old.pending }
-        ensures none { self.new.pending ≡ PendingMarker.Marker Marker.Other }
+        ensures none { self.new.pending ≡ Pending.Marker Marker.Other }
         ensures descriptors { self.new.descriptors ≡ self.old.descriptors }
     {
-        mem::replace(&mut self.pending, PendingMarker::Marker(Marker::Other))
+        mem::replace(&mut self.pending, Pending::Marker(Marker::Other))
     }
 
     // Returns the value inside its pending descriptors. On an error, leaves them in the stack.
     #[inline(always)]
-    fn finish(&mut self, answer: Result<Value, Error>) -> Result<Value, Error>
+    fn finish(&mut self, answer: Result<Value, ValueError>) -> Result<Value, ValueError>
         ensures { (start : Serializer) (t : Option Tree) →
             self.old.descriptors.kept ≡ start.descriptors.kept →
             standing self.old.descriptors ≡ standing start.descriptors →
-            self.old.pending ≡ PendingMarker.Marker Marker.Other →
-            IsImageOf (meant start.pending t) answer →
+            self.old.pending ≡ Pending.Marker Marker.Other →
+            Answers (meant start.pending t) answer →
             ValuePermits start t result self.new }
     {
         match answer {
@@ -83,7 +85,7 @@ impl Serializer {
 }
 
 impl amqp_ser::Serializer for Serializer {
-    ghost use Rattle.amqp_data.specs.declared.error.Error.TheVariants.{InvalidValue};
+    ghost use Rattle.amqp_to_value.specs.declared.value_error.ValueError.TheVariants.{InvalidValue};
     ghost use Rattle.amqp_ser.specs.Ends.{EndsPart, EndsDescriptor};
     ghost use Rattle.amqp_ser.specs.Composites.{descriptor_of};
     ghost use Rattle.amqp_ser.specs.declared.kind.CompoundKind.{CompoundKind};
@@ -91,7 +93,7 @@ impl amqp_ser::Serializer for Serializer {
 
     type Ok = Value;
 
-    type Error = Error;
+    type Error = ValueError;
 
     type Open = OpenValue;
 
@@ -108,24 +110,24 @@ impl amqp_ser::Serializer for Serializer {
     ghost refuses_none = { no_value_of_none };
 
     #[inline(always)]
-    fn serialize_fixed(&mut self, fixed: Fixed) -> Result<Value, Error> {
+    fn serialize_fixed(&mut self, fixed: Fixed) -> Result<Value, ValueError> {
         let pending = self.take_pending();
         self.finish(marked_fixed(pending, fixed))
     }
 
     #[inline(always)]
-    fn serialize_null(&mut self) -> Result<Value, Error> {
+    fn serialize_null(&mut self) -> Result<Value, ValueError> {
         self.serialize_fixed(Fixed::Null)
     }
 
     #[inline(always)]
-    fn serialize_str(&mut self, v: &str) -> Result<Value, Error> {
+    fn serialize_str(&mut self, v: &str) -> Result<Value, ValueError> {
         let pending = self.take_pending();
         self.finish(marked_text(self.alloc, pending, v))
     }
 
     #[inline(always)]
-    fn serialize_bytes(&mut self, v: &[u8]) -> Result<Value, Error> {
+    fn serialize_bytes(&mut self, v: &[u8]) -> Result<Value, ValueError> {
         let pending = self.take_pending();
         self.finish(marked_bytes(self.alloc, pending, v))
     }
@@ -173,8 +175,8 @@ impl amqp_ser::Serializer for Serializer {
     fn end_part(
         &mut self,
         compound: &mut OpenValue,
-        part: Result<Value, Error>,
-    ) -> Result<(), Error>
+        part: Result<Value, ValueError>,
+    ) -> Result<(), ValueError>
         ensures step { EndsPart ValuePermits ValueHas ValueAwaits
             self.old compound.old part result self.new compound.new }
         ensures refused { IfErr part (λ _. IsErr result) }
@@ -189,12 +191,12 @@ impl amqp_ser::Serializer for Serializer {
                 }
                 Some(_) => {
                     let_go(value);
-                    Err(Error::InvalidValue)
+                    Err(ValueError::InvalidValue)
                 }
             },
             OpenBody::CollectedParts(parts) => match parts.add_part(value, &mut self.capacity) {
                 Ok(()) => Ok(()),
-                Err(_) => Err(Error::OutOfMemory),
+                Err(_) => Err(ValueError::OutOfMemory),
             },
         }
     }
@@ -205,13 +207,13 @@ impl amqp_ser::Serializer for Serializer {
     }
 
     #[inline(always)]
-    fn misuse_error(&mut self, _compound: &mut OpenValue) -> Error {
-        Error::InvalidValue
+    fn misuse_error(&mut self, _compound: &mut OpenValue) -> ValueError {
+        ValueError::InvalidValue
     }
 
     #[inline(always)]
     fn begin_descriptor(&mut self, compound: &mut OpenValue) {
-        self.pending = PendingMarker::Descriptor;
+        self.pending = Pending::Descriptor;
         self.descriptors.keep(compound.saved);
     }
 
@@ -219,8 +221,8 @@ impl amqp_ser::Serializer for Serializer {
     fn end_descriptor(
         &mut self,
         compound: &mut OpenValue,
-        part: Result<Value, Error>,
-    ) -> Result<(), Error>
+        part: Result<Value, ValueError>,
+    ) -> Result<(), ValueError>
         ensures step { EndsDescriptor ValuePermits ValueHas ValueAwaitsDescriptor
             self.old compound.old part result self.new compound.new }
         ensures refused { IfErr part (λ _. IsErr result) }
@@ -238,7 +240,7 @@ impl amqp_ser::Serializer for Serializer {
     }
 
     #[inline(always)]
-    fn end(&mut self, compound: OpenValue) -> Result<Value, Error> {
+    fn end(&mut self, compound: OpenValue) -> Result<Value, ValueError> {
         let OpenValue { saved, body } = compound;
         let answer = body.into_value(self.alloc, &mut self.capacity);
         self.descriptors.restore(saved);

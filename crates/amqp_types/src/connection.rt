@@ -11,7 +11,7 @@ use serde_amqp::primitives::{Multiple, OrderedMap, Symbol};
 /// # Encoding
 /// A list of the fields, described by the code 0x10.
 // amqp: encoding = "list", code = 0x10, name = "amqp:open:list", rename_all = "kebab-case", new
-#[derive(Debug, PartialEq, Drop)]
+#[derive(Debug, Clone, PartialEq, Drop)]
 pub struct Open {
     /// The name of the container that sends the frame.
     pub container_id: String,

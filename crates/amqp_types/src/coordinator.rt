@@ -10,7 +10,7 @@ use serde_amqp::primitives::{Multiple, Symbol};
 /// # Encoding
 /// A list of the fields, described by the code 0x30.
 // amqp: encoding = "list", code = 0x30, name = "amqp:coordinator:list", rename_all = "kebab-case"
-#[derive(Debug, Default, PartialEq, Drop)]
+#[derive(Debug, Clone, Default, PartialEq, Drop)]
 pub struct Coordinator {
     /// What the coordinator supports, such as values of `TxnCapability`.
     pub capabilities: Option<Multiple<Symbol>>,
@@ -34,7 +34,7 @@ pub enum TxnCapability {
 
 /// The target of an attach (AMQP 1.0 part 2, section 2.7.3).
 // amqp: encoding = "described"
-#[derive(Debug, PartialEq, Drop)]
+#[derive(Debug, Clone, PartialEq, Drop)]
 pub enum AnyTarget {
     /// Where the messages of a link go to.
     Target(Target),

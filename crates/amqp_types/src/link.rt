@@ -14,7 +14,7 @@ use serde_amqp::primitives::{ByteBuf, Multiple, OrderedMap, Symbol};
 /// # Encoding
 /// A list of the fields, described by the code 0x12.
 // amqp: encoding = "list", code = 0x12, name = "amqp:attach:list", rename_all = "kebab-case", new
-#[derive(Debug, PartialEq, Drop)]
+#[derive(Debug, Clone, PartialEq, Drop)]
 pub struct Attach {
     /// The name of the link.
     pub name: String,

@@ -12,7 +12,7 @@ use amqp_messaging::Unknown;
 
 /// What a frame of AMQP says (AMQP 1.0 part 2, section 2.7).
 // amqp: encoding = "described", others
-#[derive(Debug, PartialEq, Drop)]
+#[derive(Debug, Clone, PartialEq, Drop)]
 pub enum Performative {
     /// Opens a connection, and states the limits and capabilities of the sender.
     Open(Open),

@@ -9,7 +9,7 @@ use serde_amqp::primitives::{ByteBuf, Multiple, Symbol};
 /// # Encoding
 /// A list of the fields, described by the code 0x40.
 // amqp: encoding = "list", code = 0x40, name = "amqp:sasl-mechanisms:list", rename_all = "kebab-case", new
-#[derive(Debug, PartialEq, Drop)]
+#[derive(Debug, Clone, PartialEq, Drop)]
 pub struct SaslMechanisms {
     /// The mechanisms, the preferred one first.
     pub sasl_server_mechanisms: Multiple<Symbol>,

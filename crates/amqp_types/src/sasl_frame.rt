@@ -8,7 +8,7 @@ use amqp_messaging::Unknown;
 
 /// What a frame of SASL says (AMQP 1.0 part 5, section 5.3.3).
 // amqp: encoding = "described", others
-#[derive(Debug, PartialEq, Drop)]
+#[derive(Debug, Clone, PartialEq, Drop)]
 pub enum SaslFrame {
     /// The mechanisms of the server.
     SaslMechanisms(SaslMechanisms),

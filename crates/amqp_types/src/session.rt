@@ -10,7 +10,7 @@ use serde_amqp::primitives::{Multiple, OrderedMap, Symbol};
 /// # Encoding
 /// A list of the fields, described by the code 0x11.
 // amqp: encoding = "list", code = 0x11, name = "amqp:begin:list", rename_all = "kebab-case", new
-#[derive(Debug, PartialEq, Drop)]
+#[derive(Debug, Clone, PartialEq, Drop)]
 pub struct Begin {
     /// The channel of the begin that this one answers.
     pub remote_channel: Option<u16>,

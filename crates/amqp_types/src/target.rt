@@ -12,7 +12,7 @@ use serde_amqp::primitives::{Multiple, OrderedMap, Symbol};
 /// # Encoding
 /// A list of the fields, described by the code 0x29.
 // amqp: encoding = "list", code = 0x29, name = "amqp:target:list", rename_all = "kebab-case"
-#[derive(Debug, Default, PartialEq, Drop)]
+#[derive(Debug, Clone, Default, PartialEq, Drop)]
 pub struct Target {
     /// The node.
     pub address: Option<Address>,

@@ -5,12 +5,13 @@ use Rattle.std.specs.Iterator.{Yields}
 use Rattle.std.specs.List.{AllZip}
 use Rattle.std.specs.Vec.Iter.{into_iter_items, into_iter_steps}
 use Rattle.std.specs.declared.vec.IntoIter.{IntoIter}
-use Rattle.amqp_data.specs.Pairs.{entries_of, insert_pair}
+use Rattle.amqp_data.specs.Pairs.{entries_of, insert_pairs}
+use Rattle.amqp_data.proofs.OrderLemmas.{taken_one}
 use Rattle.amqp_data.specs.declared.error.Error.{Error}
 use Rattle.amqp_data.specs.declared.error.Error.TheVariants.{OutOfMemory}
 use Rattle.amqp_value.specs.Contents.{map_in}
 use Rattle.amqp_value.specs.Converts.{FirstFits, IsMapOf, StopsAt, ConvertsAll, PairConverts, PairFits, PairFails, PairGives, PairsGive}
-use Rattle.amqp_value.specs.Places.{equal, merged}
+use Rattle.amqp_value.specs.Equal.{equal}
 use Rattle.amqp_value.specs.declared.try_from.ConvertFault.{ConvertFault}
 use Rattle.amqp_value.specs.declared.try_from.ConvertFault.TheVariants.{Unfit, Memory}
 use Rattle.amqp_value.specs.declared.value.Value.{Value}
@@ -20,14 +21,6 @@ zip_push R [] [] x y h r = (r, tt)
 zip_push R [] (z ∷ ys) x y h r = absurd h
 zip_push R (w ∷ xs) [] x y h r = absurd h
 zip_push R (w ∷ xs) (z ∷ ys) x y h r = (h.0, zip_push R xs ys x y h.1 r)
-
-taken_prefix : {X A : Type 0} (s : IntoIter X A) (xs : List X) (t : IntoIter X A) → Yields into_iter_steps s xs t → into_iter_items s ≡ xs ++ into_iter_items t
-taken_prefix s [] t y = ap into_iter_items y
-taken_prefix s (x ∷ xs) t y = y.1.0 ∙ ap (λ ys. x ∷ ys) (taken_prefix y.0 xs t y.2)
-
--- The items so far, this item and the remaining items make all the items.
-pub taken_one : {X A : Type 0} (s : IntoIter X A) (xs : List X) (t : IntoIter X A) (x : X) (u : IntoIter X A) → Yields into_iter_steps s xs t → into_iter_steps t (Some x) u → into_iter_items s ≡ xs ++ x ∷ into_iter_items u
-taken_one s xs t x u y z = taken_prefix s xs t y ∙ ap (λ r. xs ++ r) z.0
 
 pub stops : {A B Z : Type 0} (Fits : A → B → Type 0) (Fails : A → Value → Type 0) (all : List A) (s : IntoIter A Z) (xs : List A) (t : IntoIter A Z) (x : A) (u : IntoIter A Z) (done : List B) (v : Value)
     → into_iter_items s ≡ all → Yields into_iter_steps s xs t → into_iter_steps t (Some x) u → AllZip Fits xs done → Fails x v → StopsAt Fits Fails all v
@@ -77,10 +70,6 @@ pub on_ok : {T E : Type 0} (r : Result T E) (P : Type 0) → OnOk r P → is_ok 
 on_ok (Ok x) P h e = h
 on_ok (Err x) P h e = absurd (true≢false (sym e))
 
-merged_folds : (es done : List (Value × Value)) → merged equal es done ≡ fold (λ made e. insert_pair equal made e.0 e.1) done es
-merged_folds [] done = refl
-merged_folds (e ∷ es) done = merged_folds es (insert_pair equal done e.0 e.1)
-
 some_and : {A : Type 0} (P Q : A → Type 0) (o : Option A) → ((x : A) → P x → Q x) → IsSomeAnd o P → IsSomeAnd o Q
 some_and P Q (Some x) step h = step x h
 some_and P Q None step h = absurd h
@@ -92,7 +81,7 @@ same_items (x ∷ xs) = ap (λ ys. x ∷ ys) (same_items xs)
 
 -- The entries are converted one by one, and then inserted in order.
 pub converted_map : {K X : Type 0} (kc : K → Value → Type 0) (xc : X → Value → Type 0) (es : List (K × X)) (ps : List (Value × Value)) (r : Result Value Error) → AllZip (PairConverts kc xc) es ps
-    → MatchResult r (λ v. IsSomeAnd (map_in v) (λ map. entries_of map ≡ merged equal ps [])) (λ e. e ≡ OutOfMemory)
+    → MatchResult r (λ v. IsSomeAnd (map_in v) (λ map. entries_of map ≡ insert_pairs equal ps [])) (λ e. e ≡ OutOfMemory)
     → MatchResult r (λ v. IsSomeAnd (map_in v) (IsMapOf equal kc xc es)) (λ e. e ≡ OutOfMemory)
-converted_map kc xc es ps (Ok v) each h = some_and _ _ (map_in v) (λ map is. (ps, each, is ∙ merged_folds ps [])) h
+converted_map kc xc es ps (Ok v) each h = some_and _ _ (map_in v) (λ map is. (ps, each, is)) h
 converted_map kc xc es ps (Err e) each h = h

@@ -5,7 +5,7 @@ use Rattle.std.specs.Global.{Global}
 use Rattle.std.specs.List.{AllZip}
 use Rattle.std.specs.declared.cmp.Ordering.{Ordering}
 use Rattle.amqp_data.specs.Items.{array_items}
-use Rattle.amqp_data.specs.Pairs.{entries_of, insert_pair}
+use Rattle.amqp_data.specs.Pairs.{entries_of, insert_pairs}
 use Rattle.amqp_data.specs.declared.array.Array.{Array}
 use Rattle.amqp_data.specs.declared.ordered_map.OrderedMap.{OrderedMap}
 use Rattle.amqp_value.specs.Contents.{list_in, array_in, map_in}
@@ -81,7 +81,7 @@ module _ {K X : Type 0} (key_gives : Value → Result K Value → Type 0) (value
 -- The entries inserted in order: a repeated key keeps its position and gets the new value, and a
 -- new key is appended.
 abbrev pub inserted_in_order : {K X : Type 0} → (K → K → Bool) → List (K × X) → List (K × X)
-inserted_in_order eq es = fold (λ done e. insert_pair eq done e.0 e.1) [] es
+inserted_in_order eq es = insert_pairs eq es []
 
 -- The same for a sorted map, in which the order of the keys determines their positions.
 abbrev pub inserted_sorted : {K X : Type 0} → (K → K → Ordering) → List (K × X) → List (K × X)

@@ -11,9 +11,9 @@ mod distinct;
 mod escape;
 mod format_code;
 mod from;
+mod inserts;
 pub mod laws;
 mod map_builder;
-mod places;
 mod serialize;
 mod short_keys;
 mod show;
@@ -23,6 +23,7 @@ mod whole;
 
 pub use accessors::ValueKind;
 pub use build::{BuildList, BuildMap, IntoValue};
+pub use inserts::Inserts;
 pub use map_builder::MapBuilder;
 pub use short_keys::is_short_key;
 pub use try_from::ConvertFault;

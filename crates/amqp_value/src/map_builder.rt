@@ -6,9 +6,9 @@ ghost use Rattle.amqp_value.specs.Image.{insert_tree};
 ghost use Rattle.amqp_value.specs.TreeOf.{tree_of};
 ghost use Rattle.amqp_value.specs.MapBuilder.{collected_pairs};
 
-use crate::distinct::once_each;
+use crate::distinct::map_of;
 use crate::value::Value;
-use amqp_data::{Error, OrderedMap};
+use amqp_data::Error;
 use std::alloc::{AllocError, AllocFailed, Global};
 
 /// The entries of a map, inserted one after another. A repeated key keeps its position and gets the
@@ -65,22 +65,23 @@ impl MapBuilder {
     /// Returns the map of the entries, in order.
     ///
     /// # Errors
-    /// Returns `Error::OutOfMemory` if an allocation fails, which can happen only if a key repeats,
-    /// or if the keys do not ascend, and a key is long (`is_short_key`), or there are more than 8
-    /// entries and the hashes of their keys do not show that they differ.
+    /// Returns `Error::OutOfMemory` if an allocation fails, which can happen in three cases only: a
+    /// key repeats; the keys do not ascend, and one of them is long (`is_short_key`); or the keys do
+    /// not ascend, there are more than 8, and their hashes do not show that they differ.
     ///
     /// # Memory
     /// None if each key is greater than the one before it, or if there are at most 8 entries, all
     /// keys are short, and none repeats. More short keys take 12 bytes each. If a short key repeats, a
-    /// block for the entries from the first repeated key on. If a key is long, or there are more than
-    /// 16 entries and many keys have hashes in the same bucket, a B-tree of the keys, a position for
-    /// each entry, and a vector of the entries.
+    /// block for the entries from the first repeated key on. If a key is long, a B-tree of the keys, a
+    /// position for each entry, and a vector of the entries. If there are more than 16 entries and many
+    /// keys have hashes in the same bucket, a B-tree of 64-bit hashes, a vector for each entry, and a
+    /// vector of the entries.
     pub fn into_value(self, alloc: Global) -> Result<Value, Error>
         ensures { MatchResult result
             (λ v. tree_of v ≡ map (collected_pairs self))
             (λ e. e ≡ Error.OutOfMemory) }
     {
-        let entries = once_each(alloc, self.pairs)?;
-        Ok(Value::Map(OrderedMap::from_distinct(entries)))
+        let entries = map_of(alloc, self.pairs)?;
+        Ok(Value::Map(entries))
     }
 }

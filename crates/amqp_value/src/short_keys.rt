@@ -5,12 +5,7 @@ ghost use Rattle.std.specs.List.{list_all};
 ghost use Rattle.amqp_value.specs.ShortKeys.{is_short};
 
 use crate::value::Value;
-
-// The hash reads all bytes of a key, those of a binary one at a time. A comparison of two keys often
-// reads only the first ones.
-const SHORT_TEXT: usize = 256;
-
-const SHORT_BINARY: usize = 32;
+use amqp_data::{MAX_HASHED_BINARY, MAX_HASHED_TEXT};
 
 /// Returns whether the hash of the key is computed in few steps: whether it is a scalar, and at most
 /// 256 bytes long if it is a text, or 32 if it is a binary.
@@ -21,9 +16,9 @@ pub fn is_short_key(key: &Value) -> bool
     ensures { result ≡ is_short key.now }
 {
     match key {
-        Value::Binary(bytes) => bytes.as_inner().len() <= SHORT_BINARY,
-        Value::String(text) => text.len() <= SHORT_TEXT,
-        Value::Symbol(name) => name.as_inner().len() <= SHORT_TEXT,
+        Value::Binary(bytes) => bytes.as_inner().len() <= MAX_HASHED_BINARY,
+        Value::String(text) => text.len() <= MAX_HASHED_TEXT,
+        Value::Symbol(name) => name.as_inner().len() <= MAX_HASHED_TEXT,
         Value::Described(_) | Value::List(_) | Value::Map(_) | Value::Array(_) => false,
         _ => true,
     }

@@ -194,8 +194,8 @@ module _ {T : Type 0} (G : Event → T → Type 0) where
   ByMarker marker.Lazy = ByWritten
   ByMarker marker.Other = ByNewtype
 
--- The marker that the name of a newtype denotes when it is read. A borrowed symbol is never read, so
--- `SYMBOL_REF` is a name like any other.
+-- The marker that the name of a newtype denotes when it is read. A borrowed symbol is never read,
+-- so `SYMBOL_REF` is a name like any other.
 abbrev pub read_marker : List ℕ → Marker
 read_marker n = if bytes_eq n (codes "__SYMBOL_REF") then marker.Other else marker_of n
 

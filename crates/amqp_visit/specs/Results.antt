@@ -40,7 +40,8 @@ InvalidUnless Accepted (Err e) = ¬ Accepted → e ≡ error.InvalidValue
 abbrev pub IsFaultOf : Error → Fault → Type 0
 IsFaultOf e f = (IsOutOfMemory e → IsMemory f) × (IsOfReading e → error_of (kind_of f) ≡ e)
 
--- What was read from a source, with what is left of it; or the same error, as far as a fault can be it.
+-- What was read from a source, with what is left of it; or the same error, as far as a fault can be
+-- it.
 abbrev pub Finishes : {T R : Type 0} → Result T Error → R → Result (T × R) Fault → Type 0
 Finishes (Ok x) rest (Ok r) = r ≡ (x, rest)
 Finishes (Ok x) rest (Err f) = ⊥

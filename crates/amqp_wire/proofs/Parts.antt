@@ -7,16 +7,17 @@ use Rattle.amqp_ser.specs.declared.kind.CompoundKind.TheVariants as kinds
 use Rattle.amqp_ser.specs.declared.marker.Marker.TheVariants as marker
 use Rattle.amqp_ser.proofs.Joins.{join, joined}
 use Rattle.amqp_ser.proofs.Last.{last_off, paired-last}
-use Rattle.amqp_ser.proofs.Pairing.{paired-even, pairing}
+use Rattle.amqp_ser.proofs.Meant.{never, joined_none, single_meant, no_compound, makes_tree, complete_meant}
+use Rattle.amqp_ser.proofs.Unmarked.{unmarked}
 use Rattle.amqp_wire.specs.EmptyArrays.{has_empty_array, any_has, any_pair_has, Finds}
-use Rattle.amqp_wire.specs.Finder.{FindsInParts, Holds, fresh, is_empty_array, meant_parts}
-use Rattle.amqp_wire.specs.Pending.{fits, meant}
-use Rattle.amqp_wire.proofs.Meanings.{never, as_it_is, single_meant, barred, none_of_parts, trees_more, for_next}
+use Rattle.amqp_wire.specs.Finder.{FindsInParts, Holds, fresh, is_empty_array}
+use Rattle.amqp_ser.specs.Meant.{fits, meant, meant_parts}
+use Rattle.amqp_wire.proofs.Meanings.{none_of_parts, trees_more, for_next}
 use Rattle.amqp_wire.specs.declared.finder.Finder.{Finder}
 use Rattle.amqp_wire.specs.declared.finder.NoTree.{NoTree}
 use Rattle.amqp_wire.specs.declared.finder.Searched.{Searched}
-use Rattle.amqp_wire.specs.declared.pending.Pending.{Pending}
-use Rattle.amqp_wire.specs.declared.pending.Pending.TheVariants as pending
+use Rattle.amqp_ser.specs.declared.pending.Pending.{Pending}
+use Rattle.amqp_ser.specs.declared.pending.Pending.TheVariants as pending
 
 or_assoc : (a b c : Bool) → (a || (b || c)) ≡ ((a || b) || c)
 or_assoc true b c = refl
@@ -111,31 +112,6 @@ kind_finds (kinds.Variant i) ts w e = let same : w ≡ variant i (list ts) = cc 
 kind_finds (kinds.NewtypeVariant i) ts w e = variant_finds i (only ts) w (any_has ts) e (only_finds ts)
 kind_finds kinds.Single ts w e = only_finds ts w e
 
--- The trees of the parts of a complete compound make a tree.
-only_tree : (p : Option Tree) (ts : Trees) → all_trees (p ∷ []) ≡ Some ts → is_some (only ts) ≡ true
-only_tree None ts e = cc
-only_tree (Some t) ts e = let same : more t no_trees ≡ ts = cc in subst (λ x. is_some (only x) ≡ true) same refl
-
-only_variant : (i : ℕ) (o : Option Tree) → is_some o ≡ true → is_some (as_variant i o) ≡ true
-only_variant i None h = h
-only_variant i (Some t) h = refl
-
-makes_tree : (kind : CompoundKind) (ps : List (Option Tree)) (ts : Trees) → complete kind ps ≡ true → all_trees ps ≡ Some ts → is_some (as_kind kind (Some ts)) ≡ true
-makes_tree kinds.List ps ts done e = refl
-makes_tree kinds.Map ps ts done e = ap (λ o. is_some (as_map o)) ((pairing ts (sym (paired-even ps ts e) ∙ done)).are)
-makes_tree (kinds.Variant i) ps ts done e = refl
-makes_tree (kinds.NewtypeVariant i) [] ts done e = absurd (never (sym done))
-makes_tree (kinds.NewtypeVariant i) (p ∷ []) ts done e = only_variant i (only ts) (only_tree p ts e)
-makes_tree (kinds.NewtypeVariant i) (p ∷ (q ∷ ps)) ts done e = absurd (never (sym done))
-makes_tree kinds.Single [] ts done e = absurd (never (sym done))
-makes_tree kinds.Single (p ∷ []) ts done e = only_tree p ts e
-makes_tree kinds.Single (p ∷ (q ∷ ps)) ts done e = absurd (never (sym done))
-
-complete_single : (u : Pending) (ps : List (Option Tree)) → complete kinds.Single (meant_parts kinds.Single u ps) ≡ complete kinds.Single ps
-complete_single u [] = refl
-complete_single u (p ∷ []) = refl
-complete_single u (p ∷ (q ∷ ps)) = refl
-
 finds_some : (o : Option Tree) (b : Bool) → is_some o ≡ true → ((w : Tree) → o ≡ Some w → b ≡ has_empty_array w) → Finds {E = NoTree} o (Ok b)
 finds_some None b is f = absurd (never (sym is))
 finds_some (Some w) b is f = f w refl
@@ -162,13 +138,13 @@ closed : (kind : CompoundKind) (u : Pending) (ps : List (Option Tree)) (b : Bool
 unfolding tree_of_parts
 closed kinds.Single u ps b f done h =
     subst (λ t. Finds {E = NoTree} t (Ok (b || false))) (single_meant u ps)
-    (ended_on kinds.Single (all_trees (meant_parts kinds.Single u ps)) b h (λ ts e. makes_tree kinds.Single (meant_parts kinds.Single u ps) ts (complete_single u ps ∙ done) e))
+    (ended_on kinds.Single (all_trees (meant_parts kinds.Single u ps)) b h (λ ts e. makes_tree kinds.Single (meant_parts kinds.Single u ps) ts (complete_meant kinds.Single u ps ∙ done) e))
 closed kinds.List (pending.Marker marker.Array) [] b f done h = or_true b
 closed kinds.List (pending.Marker marker.Array) (p ∷ ps) b f done h = array_finds p (all_trees ps) b h
 closed kinds.List (pending.Marker marker.Transparent) ps b f done h = transparent_finds (all_trees ps) b h
 closed kind (pending.Marker marker.Other) ps b f done h =
     subst (λ e. Finds {E = NoTree} (meant (pending.Marker marker.Other) (as_kind kind (all_trees ps))) (Ok (b || e))) (not_array kind ps)
-    (subst (λ t. Finds {E = NoTree} t (Ok (b || false))) (as_it_is (as_kind kind (all_trees ps)))
+    (subst (λ t. Finds {E = NoTree} t (Ok (b || false))) (sym (unmarked (as_kind kind (all_trees ps))))
     (ended_on kind (all_trees ps) b h (λ ts e. makes_tree kind ps ts done e)))
 closed kind u ps b f done h = absurd (never (sym f))
 
@@ -184,15 +160,12 @@ finds_none o e is = subst (λ x. Finds x (Err e)) (sym is) tt
 
 -- A compound that is not valid ends.
 pub not_ended : (start : Finder) (kind : CompoundKind) (compound : Searched) (ps : List (Option Tree)) (e : NoTree) → Holds start kind compound ps → compound.fits ≡ false → Finds (meant start.pending (tree_of_parts kind ps)) (Err e)
-not_ended start kind compound ps e h fit = finds_none (meant start.pending (tree_of_parts kind ps)) e (barred start.pending kind ps (sym h.fits ∙ fit))
+unfolding tree_of_parts
+not_ended start kind compound ps e h fit = finds_none (meant start.pending (tree_of_parts kind ps)) e (no_compound start.pending kind (all_trees ps) (sym h.fits ∙ fit))
 
 no_tree : (p : Option Tree) (e : NoTree) → Finds p (Err e) → p ≡ None
 no_tree None e h = refl
 no_tree (Some t) e h = absurd h
-
-joined-none : (o : Option Trees) → joined o None ≡ None
-joined-none None = refl
-joined-none (Some ts) = refl
 
 -- A part has no tree.
 pub refused : (start : Finder) (kind : CompoundKind) (compound : Searched) (ps : List (Option Tree)) (p : Option Tree) (e : NoTree) → Holds start kind compound ps → Finds (meant compound.next.pending p) (Err e) →
@@ -201,4 +174,4 @@ refused start kind compound ps p e h g rest =
     finds_none (meant start.pending (tree_of_parts kind (ps ++ (p ∷ rest)))) e (none_of_parts start.pending kind (ps ++ (p ∷ rest))
     (trees_more kind start compound.next ps rest p h.next
     ∙ (ap (λ q. joined (all_trees (meant_parts kind start.pending ps)) (prepend q (all_trees rest))) (no_tree (meant compound.next.pending p) e g)
-    ∙ joined-none (all_trees (meant_parts kind start.pending ps)))))
+    ∙ joined_none (all_trees (meant_parts kind start.pending ps)))))

@@ -3,8 +3,8 @@
 use Rattle.std.specs.Prelude.{◌≡◌, Bool, true, false, ◌||◌, Option, Some, None, Result, Ok, Err}
 use Rattle.amqp_ser.specs.Tree.{Tree, Trees, Pairs, scalar, list, array, map, described, variant, lazy, transparent, no_trees, more, no_pairs, pair}
 
--- The tree, or a part of it at any depth, is an array without elements. The bytes of a lazy tree are
--- not looked into.
+-- The tree, or a part of it at any depth, is an array without elements. The bytes of a lazy tree
+-- are not looked into.
 abbrev mutual
   pub has_empty_array : Tree → Bool
   has_empty_array (scalar s) = false

@@ -1,17 +1,18 @@
 -- The state of the search for arrays without elements.
 use Rattle.std.specs.Prelude.{◌≡◌, Bool, true, false, List, [], ◌∷◌, ◌++◌, Option, Some, None, Result, Ok}
+use Rattle.std.proofs.Common.{subst}
 use Rattle.amqp_ser.specs.Tree.{Tree, Trees}
 use Rattle.amqp_ser.specs.Compounds.{all_trees, paired}
 use Rattle.amqp_ser.specs.declared.kind.CompoundKind.{CompoundKind}
 use Rattle.amqp_ser.specs.declared.kind.CompoundKind.TheVariants as kinds
 use Rattle.amqp_ser.specs.declared.marker.Marker.TheVariants as marker
 use Rattle.amqp_wire.specs.EmptyArrays.{any_has, Finds}
-use Rattle.amqp_wire.specs.Pending.{fits, meant}
+use Rattle.amqp_ser.specs.Meant.{fits, meant, meant_none, meant_parts}
 use Rattle.amqp_wire.specs.declared.finder.Finder.{Finder}
 use Rattle.amqp_wire.specs.declared.finder.NoTree.{NoTree}
 use Rattle.amqp_wire.specs.declared.finder.Searched.{Searched}
-use Rattle.amqp_wire.specs.declared.pending.Pending.{Pending}
-use Rattle.amqp_wire.specs.declared.pending.Pending.TheVariants as pending
+use Rattle.amqp_ser.specs.declared.pending.Pending.{Pending}
+use Rattle.amqp_ser.specs.declared.pending.Pending.TheVariants as pending
 
 -- The state before a value without a marker.
 abbrev pub fresh : Finder
@@ -22,18 +23,13 @@ Permits before t r after = Finds (meant before.pending t) r × (after ≡ fresh)
 
 -- If there is no tree, the result is an error.
 pub nothing_on_none : (before : Finder) (b : Bool) (after : Finder) → Permits before None (Ok b) after → ⊥
-nothing_on_none before b after h = h.0
+nothing_on_none before b after h = subst (λ o. Finds {E = NoTree} o (Ok b)) (meant_none before.pending) h.0
 
 -- The state before the next part: for the one part of a single compound, the state before the
 -- compound.
 abbrev pub for_part : CompoundKind → List (Option Tree) → Finder → Finder
 for_part kinds.Single [] start = start
 for_part k ps start = fresh
-
--- The trees of the parts: what precedes a single compound applies to its one part.
-abbrev pub meant_parts : CompoundKind → Pending → List (Option Tree) → List (Option Tree)
-meant_parts kinds.Single u (p ∷ ps) = meant u p ∷ ps
-meant_parts k u ps = ps
 
 -- It is an array, and has no elements.
 abbrev pub is_empty_array : CompoundKind → Pending → List (Option Tree) → Bool

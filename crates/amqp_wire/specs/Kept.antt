@@ -28,7 +28,8 @@ kept c = record { opened = c.opened; outer = c.outer; count = c.count; place = c
 abbrev pub with_count : Kept → Mark → Place → Place → Kept
 with_count c m place after = record { opened = c.opened; outer = c.outer; count = c.count + 1; place = place; marker = c.marker; after = after; before_last = m }
 
--- With one more part, before which the position was m, and after which the pass has the place q. Only a map keeps m.
+-- With one more part, before which the position was m, and after which the pass has the place q.
+-- Only a map keeps m.
 abbrev pub with_part : ResolvedKind → Kept → Mark → Place → Kept
 with_part resolved.List c m q = with_count c c.before_last c.place c.after
 with_part resolved.Map c m q = with_count c m c.place c.after

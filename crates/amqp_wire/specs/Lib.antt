@@ -13,5 +13,4 @@ pub mod Forms
 pub mod Gives
 pub mod ScalarForms
 pub mod Encoded
-pub mod Pending
 pub mod Finder

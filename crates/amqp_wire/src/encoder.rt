@@ -46,8 +46,8 @@ impl Encoder {
     /// The bytes of `to_vec`.
     ///
     /// # Errors
-    /// Returns the errors of `to_vec`: `OutOfMemory` if a buffer cannot grow. The encoder can be used
-    /// after an error.
+    /// Returns the errors of `to_vec`: `OutOfMemory` if a buffer cannot grow. The encoder can be
+    /// used after an error.
     ///
     /// # Memory
     /// Allocates only if the encoding is longer, or the value has more compounds, than the buffers

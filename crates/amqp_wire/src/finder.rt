@@ -4,8 +4,7 @@ ghost use Rattle.std.specs.Prelude.{◌≡◌, ◌||◌, List, Option, Result, O
 ghost use Rattle.amqp_ser.specs.Tree.{Tree};
 ghost use Rattle.amqp_wire.specs.Finder.{fresh};
 
-use crate::pending::Pending;
-use amqp_ser::{CompoundKind, Fixed, Marker, Serializer};
+use amqp_ser::{CompoundKind, Fixed, Marker, Pending, Serializer};
 use std::mem;
 
 /// A serializer whose result is whether the tree has an array without elements.

@@ -28,7 +28,6 @@ mod pass_begin;
 mod pass_compound;
 mod pass_serializer;
 mod passes;
-mod pending;
 mod place;
 mod put;
 mod scalar_forms;

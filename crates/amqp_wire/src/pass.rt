@@ -180,8 +180,8 @@ impl<K: Sink> Pass<K> {
         }
     }
 
-    /// Returns whether a value is added whole here: it has its ordinary form, and it is no part of a
-    /// value that was not added whole.
+    /// Returns whether a value is added whole here: it has its ordinary form, and it is no part of
+    /// a value that was not added whole.
     #[inline(always)]
     pub(crate) fn takes_whole(&self) -> bool
         ensures marker { result ≡ true → self.now.marker ≡ Some Marker.Other }

@@ -87,8 +87,8 @@ fn put_both<K: Sink>(sink: &mut K, few: &[u8], bytes: &[u8]) -> bool
     sink.bytes(bytes)
 }
 
-/// Puts the length of a text or a binary: of one byte after the code `short`, or of four bytes after
-/// the code `long`. In an array there is no code.
+/// Puts the length of a text or a binary: of one byte after the code `short`, or of four bytes
+/// after the code `long`. In an array there is no code.
 #[inline(always)]
 fn put_len<K: Sink>(sink: &mut K, element: bool, short: u8, long: u8, n: u32) -> bool
     ensures grown { K.extends sink.old sink.new }

@@ -10,13 +10,14 @@ use Rattle.amqp_ser.specs.declared.kind.CompoundKind.{CompoundKind}
 use Rattle.amqp_ser.specs.declared.kind.CompoundKind.TheVariants as kinds
 use Rattle.amqp_ser.proofs.Joins.{join, joined, all_trees-append, kind_none}
 use Rattle.amqp_ser.proofs.Last.{last_off, paired-last}
+use Rattle.amqp_ser.proofs.Meant.{never, makes_tree, complete_meant}
 use Rattle.amqp_ser.proofs.Pairing.{even, paired-even, pairing}
-use Rattle.examples.specs.Nodes.{nodes, nodes_each, nodes_of_pairs, CountsFrom, CountsParts, Holds, IsRefusal, fresh, own_nodes, for_part, meant_parts}
-use Rattle.examples.specs.PendingMarker.{fits, meant}
-use Rattle.examples.proofs.Meanings.{Sums, as_it_is, barred, is_refusal, never, through}
+use Rattle.amqp_ser.proofs.Unmarked.{unmarked}
+use Rattle.examples.specs.Nodes.{nodes, nodes_each, nodes_of_pairs, CountsFrom, CountsParts, Holds, IsRefusal, fresh, own_nodes, for_part}
+use Rattle.amqp_ser.specs.Meant.{fits, meant, meant_parts}
+use Rattle.examples.proofs.Meanings.{Sums, barred, is_refusal, through}
 use Rattle.examples.specs.declared.counter.Counting.{Counting}
 use Rattle.examples.specs.declared.counter.NodeCounter.{NodeCounter}
-use Rattle.examples.specs.declared.pending_marker.PendingMarker.{PendingMarker}
 
 nodes_each-join : (ts us : Trees) → nodes_each (join ts us) ≡ nodes_each ts + nodes_each us
 nodes_each-join no_trees us = omega arith
@@ -59,8 +60,8 @@ counted_at descriptors n o ts h e = subst (λ x. CountsParts descriptors x n) e 
 meant_more : (kind : CompoundKind) (start : NodeCounter) (ps rest : List (Option Tree)) (p : Option Tree) →
     meant_parts kind start.pending (ps ++ (p ∷ rest)) ≡ meant_parts kind start.pending ps ++ (meant (for_part kind ps start).pending p ∷ rest)
 meant_more kinds.Single start [] rest p = refl
-meant_more kinds.Single start (q ∷ ps) rest p = ap (λ x. meant start.pending q ∷ (ps ++ (x ∷ rest))) (as_it_is p)
-meant_more kind start ps rest p = ap (λ x. ps ++ (x ∷ rest)) (as_it_is p)
+meant_more kinds.Single start (q ∷ ps) rest p = ap (λ x. meant start.pending q ∷ (ps ++ (x ∷ rest))) (sym (unmarked p))
+meant_more kind start ps rest p = ap (λ x. ps ++ (x ∷ rest)) (sym (unmarked p))
 
 held_more : (start : NodeCounter) (kind : CompoundKind) (compound : Counting) (ps rest : List (Option Tree)) (p : Option Tree) → Holds start kind compound ps →
     meant_parts kind start.pending (ps ++ (p ∷ rest)) ≡ meant_parts kind start.pending ps ++ (meant compound.next.pending p ∷ rest)
@@ -151,32 +152,6 @@ whole_nodes : (kind : CompoundKind) (o : Option Trees) (w : Tree) → as_kind ki
 whole_nodes kind None w e = let k = kind_none kind in cc
 whole_nodes kind (Some ts) w e = (ts, (refl, kind_nodes kind ts w e))
 
--- the trees of the parts of a complete compound make a tree
-only_tree : (p : Option Tree) (ts : Trees) → all_trees (p ∷ []) ≡ Some ts → is_some (only ts) ≡ true
-only_tree None ts e = cc
-only_tree (Some t) ts e = let same : more t no_trees ≡ ts = cc in subst (λ x. is_some (only x) ≡ true) same refl
-
-only_variant : (i : ℕ) (o : Option Tree) → is_some o ≡ true → is_some (as_variant i o) ≡ true
-only_variant i None h = h
-only_variant i (Some t) h = refl
-
-makes_tree : (kind : CompoundKind) (ps : List (Option Tree)) (ts : Trees) → complete kind ps ≡ true → all_trees ps ≡ Some ts → is_some (as_kind kind (Some ts)) ≡ true
-makes_tree kinds.List ps ts done e = refl
-makes_tree kinds.Map ps ts done e = ap (λ o. is_some (as_map o)) ((pairing ts (sym (paired-even ps ts e) ∙ done)).are)
-makes_tree (kinds.Variant i) ps ts done e = refl
-makes_tree (kinds.NewtypeVariant i) [] ts done e = absurd (never (sym done))
-makes_tree (kinds.NewtypeVariant i) (p ∷ []) ts done e = only_variant i (only ts) (only_tree p ts e)
-makes_tree (kinds.NewtypeVariant i) (p ∷ (q ∷ ps)) ts done e = absurd (never (sym done))
-makes_tree kinds.Single [] ts done e = absurd (never (sym done))
-makes_tree kinds.Single (p ∷ []) ts done e = only_tree p ts e
-makes_tree kinds.Single (p ∷ (q ∷ ps)) ts done e = absurd (never (sym done))
-
-complete_meant : (kind : CompoundKind) (u : PendingMarker) (ps : List (Option Tree)) → complete kind (meant_parts kind u ps) ≡ complete kind ps
-complete_meant kinds.Single u [] = refl
-complete_meant kinds.Single u (p ∷ []) = refl
-complete_meant kinds.Single u (p ∷ (q ∷ ps)) = refl
-complete_meant kind u ps = refl
-
 nothing_left : (start : NodeCounter) (kind : CompoundKind) (ps : List (Option Tree)) → complete kind ps ≡ true → (for_part kind ps start).descriptors ≡ 0
 nothing_left start kinds.Single [] e = absurd (never (sym e))
 nothing_left start kinds.Single (p ∷ ps) e = refl
@@ -223,7 +198,7 @@ past descriptors m inner kind qs rest q e h refusal f = on_tree descriptors (tre
     (g.0, omega arith))
 
 -- like `past`, for the intended tree of the compound
-past_held : (b : Bool) (start : NodeCounter) (kind : CompoundKind) (compound : Counting) (ps rest : List (Option Tree)) (p : Option Tree) (e : Error) → fits start.pending kind ≡ b → Holds start kind compound ps → IsRefusal e →
+past_held : (b : Bool) (start : NodeCounter) (kind : CompoundKind) (compound : Counting) (ps rest : List (Option Tree)) (p : Option Tree) (e : Error) → fits kind start.pending ≡ b → Holds start kind compound ps → IsRefusal e →
     ((t : Tree) → meant compound.next.pending p ≡ Some t → (e ≡ TooLong) × (2 ^ 64 ≤ compound.count + (nodes t + compound.next.descriptors))) →
     CountsFrom start.descriptors (meant start.pending (tree_of_parts kind (ps ++ (p ∷ rest)))) (Err e)
 past_held true start kind compound ps rest p e fit h refusal f =
@@ -238,13 +213,13 @@ answer descriptors o r t h e = subst (λ q. CountsFrom descriptors q r) e h
 
 pub refused : (start : NodeCounter) (kind : CompoundKind) (compound : Counting) (ps : List (Option Tree)) (p : Option Tree) (e : Error) → Holds start kind compound ps → CountsFrom compound.next.descriptors (meant compound.next.pending p) (Err e) →
     (rest : List (Option Tree)) → CountsFrom start.descriptors (meant start.pending (tree_of_parts kind (ps ++ (p ∷ rest)))) (Err e)
-refused start kind compound ps p e h g rest = past_held (fits start.pending kind) start kind compound ps rest p e refl h (is_refusal compound.next.descriptors (meant compound.next.pending p) e g) (λ t is.
+refused start kind compound ps p e h g rest = past_held (fits kind start.pending) start kind compound ps rest p e refl h (is_refusal compound.next.descriptors (meant compound.next.pending p) e g) (λ t is.
     let a = answer compound.next.descriptors (meant compound.next.pending p) (Err e) t g is in
     let m = a.1 in
     (a.0, omega arith))
 
 pub too_many : (start : NodeCounter) (n : ℕ) (kind : CompoundKind) (compound : Counting) (ps : List (Option Tree)) (p : Option Tree) → Holds start kind compound ps → CountsFrom compound.next.descriptors (meant compound.next.pending p) (Ok n) →
     2 ^ 64 ≤ compound.count + n → (rest : List (Option Tree)) → CountsFrom start.descriptors (meant start.pending (tree_of_parts kind (ps ++ (p ∷ rest)))) (Err TooLong)
-too_many start n kind compound ps p h g m rest = past_held (fits start.pending kind) start kind compound ps rest p TooLong refl h (inr refl) (λ t is.
+too_many start n kind compound ps p h g m rest = past_held (fits kind start.pending) start kind compound ps rest p TooLong refl h (inr refl) (λ t is.
     let a = answer compound.next.descriptors (meant compound.next.pending p) (Ok n) t g is in
     (refl, omega arith))

@@ -4,6 +4,7 @@
 -- For readers who implement `Serializer`: shows the definitions that its contract consists of, here
 -- that of `NodeCounter`.
 use Rattle.std.specs.Prelude.{◌≡◌, ℕ, ◌+◌, ◌^◌, ◌≤◌, ◌⊎◌, List, [], ◌∷◌, ◌++◌, Option, Some, None, Result, Ok, Err, false}
+use Rattle.std.proofs.Common.{subst}
 use Rattle.serde_amqp.specs.Error.{Error}
 use Rattle.serde_amqp.specs.Error.TheVariants.{InvalidValue, TooLong}
 use Rattle.serde_amqp.specs.Tree.{Tree, Trees, Pairs, scalar, list, array, map, described, variant, lazy, transparent, no_trees, more, no_pairs, pair}
@@ -11,11 +12,10 @@ use Rattle.serde_amqp.specs.Compounds.{all_trees, paired}
 use Rattle.serde_amqp.specs.CompoundKind.{CompoundKind}
 use Rattle.serde_amqp.specs.CompoundKind.TheVariants as kinds
 use Rattle.serde_amqp.specs.Marker.TheVariants as marker
-use Rattle.examples.specs.PendingMarker.{fits, meant}
+use Rattle.serde_amqp.specs.Meant.{fits, meant, meant_none, meant_parts}
 use Rattle.examples.specs.declared.counter.Counting.{Counting}
 use Rattle.examples.specs.declared.counter.NodeCounter.{NodeCounter}
-use Rattle.examples.specs.declared.pending_marker.PendingMarker.{PendingMarker}
-use Rattle.examples.specs.declared.pending_marker.PendingMarker.TheVariants as pending
+use Rattle.serde_amqp.specs.Pending.TheVariants as pending
 
 abbrev mutual
   pub nodes : Tree → ℕ
@@ -62,7 +62,7 @@ Permits before t r after = CountsFrom before.descriptors (meant before.pending t
 
 -- the result for a value without a tree is an error
 pub no_count_on_none : (before : NodeCounter) (n : ℕ) (after : NodeCounter) → Permits before None (Ok n) after → ⊥
-no_count_on_none before n after h = h.0
+no_count_on_none before n after h = subst (λ o. CountsFrom before.descriptors o (Ok n)) (meant_none before.pending) h.0
 
 -- the number of nodes that a compound adds to those of its parts
 abbrev pub own_nodes : CompoundKind → ℕ
@@ -76,11 +76,6 @@ abbrev pub for_part : CompoundKind → List (Option Tree) → NodeCounter → No
 for_part kinds.Single [] start = start
 for_part k ps start = fresh
 
--- the intended trees of the parts: what precedes a single compound applies to its one part
-abbrev pub meant_parts : CompoundKind → PendingMarker → List (Option Tree) → List (Option Tree)
-meant_parts kinds.Single u (p ∷ ps) = meant u p ∷ ps
-meant_parts k u ps = ps
-
 -- the number of nodes of these parts and of the descriptors before the compound
 abbrev pub CountsParts : ℕ → Option Trees → ℕ → Type 0
 CountsParts descriptors None n = ⊥
@@ -89,7 +84,7 @@ CountsParts descriptors (Some ts) n = n ≡ nodes_each ts + descriptors
 -- an open compound with these parts
 pub record Holds (start : NodeCounter) (kind : CompoundKind) (compound : Counting) (ps : List (Option Tree)) : Type 0 where
   pub own : compound.own ≡ own_nodes kind
-  pub fits : compound.fits ≡ fits start.pending kind
+  pub fits : compound.fits ≡ fits kind start.pending
   pub next : compound.next ≡ for_part kind ps start
   pub count : CountsParts start.descriptors (all_trees (meant_parts kind start.pending ps)) (compound.count + compound.next.descriptors)
   pub before_last : kind ≡ kinds.Map → paired ps ≡ false → (qs : List (Option Tree)) (q : Option Tree) → ps ≡ qs ++ (q ∷ []) → CountsParts start.descriptors (all_trees qs) compound.before_last

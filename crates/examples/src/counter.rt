@@ -8,9 +8,8 @@ ghost use Rattle.serde_amqp.specs.Error.TheVariants.{InvalidValue, TooLong};
 ghost use Rattle.serde_amqp.specs.Tree.{Tree};
 ghost use Rattle.examples.specs.Nodes.{CountsNodes, fresh};
 
-use crate::pending_marker::PendingMarker;
 use serde_amqp::Error;
-use serde_amqp::ser::{CompoundKind, Fixed, Marker, Serialize, Serializer};
+use serde_amqp::ser::{CompoundKind, Fixed, Marker, Pending, Serialize, Serializer};
 use std::mem;
 
 /// A serializer that counts the nodes of a tree.
@@ -22,7 +21,7 @@ pub struct NodeCounter {
     /// The number of descriptors before the next tree. Each adds one node.
     descriptors: u64,
     /// The marker of the next tree, or the position of a descriptor.
-    pending: PendingMarker,
+    pending: Pending,
 }
 
 /// A compound that is being counted.
@@ -57,7 +56,7 @@ impl NodeCounter {
     {
         NodeCounter {
             descriptors: 0,
-            pending: PendingMarker::Marker(Marker::Other),
+            pending: Pending::Marker(Marker::Other),
         }
     }
 
@@ -192,7 +191,7 @@ impl Serializer for NodeCounter {
     }
 
     fn begin_descriptor(&mut self, _compound: &mut Counting) {
-        self.pending = PendingMarker::Descriptor;
+        self.pending = Pending::Descriptor;
     }
 
     fn end_descriptor(

@@ -2,13 +2,13 @@
 //!
 //! `main` computes the length of a message, writes its bytes, prints it as an untyped value, splits
 //! the bytes into the message's sections and decodes each section; counts the message's nodes with
-//! the serializer `NodeCounter`; compares a property of another message; writes and reads structs of
-//! one to 32 fields; and reads gusts of wind.
+//! the serializer `NodeCounter`; compares a property of another message; writes and reads structs
+//! of one to 32 fields; and reads gusts of wind.
 //!
 //! - `message`, `room`: the sections of a message, and a value that is written only if it fits.
 //! - `ranges`: an untyped value that is encoded and decoded again.
 //! - `filter`: a filter by a property. It depends on the public contracts of `amqp_value` alone.
-//! - `counter`, `pending_marker`: the serializer, which counts the nodes of a tree.
+//! - `counter`: the serializer, which counts the nodes of a tree.
 //! - `weather`: the program of `docs/GETTING_STARTED.md`.
 //! - `widths`: structs of one to 32 fields.
 #![tactic(auto)]
@@ -16,7 +16,6 @@
 mod counter;
 mod filter;
 mod message;
-mod pending_marker;
 mod ranges;
 mod room;
 mod weather;

@@ -1,5 +1,5 @@
-//! An untyped value that is encoded and decoded again. Its caller needs no premise on the ranges of its
-//! contents, because a result of `to_lazy_value` states them. No proof is written by hand.
+//! An untyped value that is encoded and decoded again. Its caller needs no premise on the ranges of
+//! its contents, because a result of `to_lazy_value` states them. No proof is written by hand.
 
 ghost use Rattle.std.specs.Prelude.{◌≡◌, ◌≤◌, MatchResult, true};
 ghost use Rattle.serde_amqp.specs.Depth.{depth_of};
@@ -13,8 +13,8 @@ use std::alloc::Global;
 
 /// Encodes a value as a lazy value, and decodes it.
 ///
-/// A sound value that is writable and at most 256 levels deep returns unchanged. The only error for it
-/// is `OutOfMemory`.
+/// A sound value that is writable and at most 256 levels deep returns unchanged. The only error for
+/// it is `OutOfMemory`.
 ///
 /// # Example
 /// The list of the string `a` is encoded as `c00401a10161`, and returns.

@@ -42,6 +42,7 @@ pub use Rattle.amqp_ser.specs.Ends
 pub use Rattle.amqp_ser.specs.Fixed
 pub use Rattle.amqp_ser.specs.Limits
 pub use Rattle.amqp_ser.specs.Marked
+pub use Rattle.amqp_ser.specs.Meant
 pub use Rattle.amqp_ser.specs.Named
 pub use Rattle.amqp_ser.specs.SizeAndBytes
 pub use Rattle.amqp_ser.specs.Structs
@@ -50,6 +51,7 @@ pub use Rattle.amqp_ser.specs.Words
 pub use Rattle.amqp_ser.specs.Writable
 pub use Rattle.amqp_ser.specs.declared.kind.CompoundKind
 pub use Rattle.amqp_ser.specs.declared.marker.Marker
+pub use Rattle.amqp_ser.specs.declared.pending.Pending
 pub use Rattle.amqp_size.specs.Width
 pub use Rattle.amqp_wire.specs.Appended
 pub use Rattle.amqp_wire.specs.EmptyArrays

@@ -20,8 +20,8 @@ use std::alloc::Global;
 /// [`Write::put`], after which a prefix of the bytes was written.
 ///
 /// # Memory
-/// Allocates from `alloc` as [`to_vec`](crate::to_vec) does, and what the writer allocates. For many
-/// values, an [`Encoder`](crate::Encoder) keeps its buffers: pass its bytes to [`Write::put`].
+/// Allocates from `alloc` as [`to_vec`](crate::to_vec) does, and what the writer allocates. For
+/// many values, an [`Encoder`](crate::Encoder) keeps its buffers: pass its bytes to [`Write::put`].
 ///
 /// # Example
 /// For the list of the strings `a` and `bc`, writes `c00802a10161a1026263`.

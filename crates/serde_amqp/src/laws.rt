@@ -36,11 +36,11 @@ pub fn lazy_values_have_the_image_of_what_they_hold()
         depth_of t ≤ 256 → refuses e (Some (lazy (encoding t))) → e ≡ OutOfMemory }
 {}
 
-/// A sound value, which is writable and at most 256 levels deep, returns from its lazy value: a value
-/// that represents the lazy value has the tree of the sound value.
+/// A sound value, which is writable and at most 256 levels deep, returns from its lazy value: a
+/// value that represents the lazy value has the tree of the sound value.
 ///
-/// The only error is `OutOfMemory`, both for the lazy value of the sound value, and for the value that
-/// represents it.
+/// The only error is `OutOfMemory`, both for the lazy value of the sound value, and for the value
+/// that represents it.
 pub fn sound_values_return_from_lazy_values()
     ensures value { (v w : Value) → IsSound v → IsRanged (tree_of v) → writable (tree_of v) ≡ true →
         depth_of (tree_of v) ≤ 256 → StandsFor w (Some (lazy (encoding (tree_of v)))) →

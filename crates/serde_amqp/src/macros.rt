@@ -1,6 +1,6 @@
-//! The macros of user-defined types, and of values written in place. `amqp_ser` has `fields!` too, for
-//! crates that do not depend on this one: a crate that calls a macro depends on the crate that defines
-//! it.
+//! The macros of user-defined types, and of values written in place. `amqp_ser` has `fields!` too,
+//! for crates that do not depend on this one: a crate that calls a macro depends on the crate that
+//! defines it.
 
 /// Builds the fields of a struct, in order: `fields! { "name": value, "other"?: option, .. }`.
 ///
@@ -31,9 +31,9 @@ macro_rules! fields {
 /// The fields of a struct, in order: `named! { "name", "other"?, "third" = 20, .. }`.
 ///
 /// A `?` marks an optional field, which may be absent or null. A field with `= number` is read as
-/// this number if it is absent or null; for a `bool`, 0 is `false` and 1 is `true`. Inside `ListOf`,
-/// `MapOf` or `AnyOf` it reads the values of the fields, which the pattern `values!` destructures,
-/// and from which `built!` builds a struct.
+/// this number if it is absent or null; for a `bool`, 0 is `false` and 1 is `true`. Inside
+/// `ListOf`, `MapOf` or `AnyOf` it reads the values of the fields, which the pattern `values!`
+/// destructures, and from which `built!` builds a struct.
 #[macro_export]
 macro_rules! named {
     () => { () };
@@ -156,8 +156,8 @@ macro_rules! place {
 /// Builds a list: `list![in alloc; item, ..]`, of type `Result<Value, Error>`.
 ///
 /// An item is `null`, `sym` and a text for a symbol, or an expression of a type that is
-/// [`IntoValue`](crate::value::IntoValue), such as a number, a text or a `Value`. Nested lists and maps are
-/// written with `?`.
+/// [`IntoValue`](crate::value::IntoValue), such as a number, a text or a `Value`. Nested lists and
+/// maps are written with `?`.
 ///
 /// # Example
 /// `list![in alloc; 1u32, "a", null]?` is encoded as `c007035201a1016140`.
@@ -186,8 +186,8 @@ macro_rules! list_items {
 /// Builds a map: `map!{in alloc; key => value, ..}`, of type `Result<Value, Error>`.
 ///
 /// A key or a value is as an item of [`list!`](crate::list): `null`, `sym` and a text for a symbol,
-/// or an expression of a type that is [`IntoValue`](crate::value::IntoValue). A value after `sym` or `null`
-/// as a key is written the same way.
+/// or an expression of a type that is [`IntoValue`](crate::value::IntoValue). A value after `sym`
+/// or `null` as a key is written the same way.
 ///
 /// # Example
 /// `map!{in alloc; "k" => 1u8, sym "s" => null}?` is encoded as `c10a04a1016b5001a3017340`.

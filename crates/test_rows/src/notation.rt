@@ -3,8 +3,8 @@
 //! A word consists of parts joined by `+`. `HEX` denotes bytes, and `HEX*COUNT` these bytes `COUNT`
 //! times. `HEX#COUNT` denotes these bytes `COUNT` times, each time followed by the number of the
 //! repetition, from 1, in four bytes. `CODE^COUNT` denotes `COUNT` nested compounds of one element
-//! around everything that follows: each has the code, a size and a count of four bytes each, and the
-//! element. `-` denotes no bytes.
+//! around everything that follows: each has the code, a size and a count of four bytes each, and
+//! the element. `-` denotes no bytes.
 
 use amqp_data::Error;
 use hex::FromHexError;

@@ -58,8 +58,9 @@ pub fn place(alloc: Global, bytes: &[u8]) -> Result<String, Error> {
     }
 }
 
-/// Returns the error within a limit on elements that have no bytes, if there is one, and the place of
-/// the first fault; the arguments are `LIMIT BYTES`. An error has this place, or none at the limit.
+/// Returns the error within a limit on elements that have no bytes, if there is one, and the place
+/// of the first fault; the arguments are `LIMIT BYTES`. An error has this place, or none at the
+/// limit.
 pub fn place_within(alloc: Global, arguments: &str) -> Result<String, Error> {
     let Some((limit, bytes)) = arguments.split_once(' ') else {
         return Err(Error::Message("one argument"));

@@ -8,11 +8,10 @@ ghost use Rattle.amqp_de.specs.Reads.{Always};
 
 use crate::deserialize::Deserialize;
 use crate::fault::Fault;
-use crate::keys::ordered_keys_differ;
 use crate::numbers::{Number, read_numbers};
 use crate::scalar::Scalar;
 use crate::source::Source;
-use amqp_data::{Timestamp, Uuid};
+use amqp_data::{Timestamp, Uuid, ordered_keys_differ};
 use amqp_decode::prefix::{GaveUp, read_char, read_timestamp, read_uuid};
 use amqp_value::{Value, ValueKind};
 use std::alloc::Global;

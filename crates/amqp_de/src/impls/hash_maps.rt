@@ -7,27 +7,15 @@ ghost use Rattle.std.specs.Map.{keys_of};
 ghost use Rattle.amqp_ser.specs.Tree as tree;
 ghost use Rattle.amqp_value.specs.TreeOf.{pairs_of};
 ghost use Rattle.amqp_de.specs.Maps.{OnMap, ReadsPairs, pair_image, IsPair, SamePair};
-ghost use Rattle.amqp_de.specs.Maps.{HoldsHashed, SameInSomeOrder, AreDistinct};
+ghost use Rattle.amqp_de.specs.Maps.{SameInSomeOrder, AreDistinct};
 
-use super::maps::{Inserts, insert_all, read_certain};
+use super::maps::{insert_all, read_certain};
 use crate::deserialize::Deserialize;
 use crate::fault::Fault;
 use crate::source::Source;
 use std::alloc::Global;
 use std::collections::HashMap;
 use std::hash::Hash;
-
-impl<K: Hash + Eq + Drop, V: Drop> Inserts<K, V> for HashMap<K, V> {
-    ghost holds = { HoldsHashed K.eq };
-
-    fn empty(alloc: Global, _count: usize) -> HashMap<K, V> {
-        HashMap::new(alloc)
-    }
-
-    fn put(&mut self, key: K, value: V) -> bool {
-        HashMap::insert(self, key, value).is_ok()
-    }
-}
 
 impl<K: Deserialize + Hash + Eq, V: Deserialize> Deserialize for HashMap<K, V> {
     ghost reads = { λ t m.

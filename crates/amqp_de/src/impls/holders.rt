@@ -9,8 +9,8 @@ ghost use Rattle.amqp_de.specs.Reads.{RestorableOption, SameOption};
 
 use crate::deserialize::Deserialize;
 use crate::fault::Fault;
-use crate::keys::ordered_keys_differ;
 use crate::source::Source;
+use amqp_data::ordered_keys_differ;
 use amqp_value::Value;
 use std::alloc::Global;
 

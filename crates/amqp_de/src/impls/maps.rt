@@ -14,41 +14,13 @@ ghost use Rattle.amqp_de.specs.Results.{IsMemory, Reading};
 
 use crate::deserialize::Deserialize;
 use crate::fault::Fault;
-use crate::impls::sorted_hashes::insert_by_hashes;
-use crate::keys::keys_differ;
 use crate::room::FEW_RESERVED;
 use crate::source::Source;
-use amqp_data::OrderedMap;
+use amqp_data::{OrderedMap, keys_differ, once_each_unordered};
+use amqp_value::Inserts;
 use std::alloc::{AllocError, Global};
 use std::collections::BTreeMap;
 use std::hash::Hash;
-
-/// A map that pairs are inserted into.
-pub(super) trait Inserts<K, V>: Sized + Drop {
-    /// Which maps result from inserting these pairs, in order.
-    ghost holds: { List (K × V) → Self → Type 0 };
-
-    /// Returns an empty map, for `count` pairs if it makes room.
-    fn empty(alloc: Global, count: usize) -> Self
-        ensures { holds [] result };
-
-    /// Inserts a pair; returns `false` if an allocation fails.
-    fn put(&mut self, key: K, value: V) -> bool
-        ensures { (done : List (K × V)) → IsTrue result →
-            holds done self.old → holds (done ++ (key, value) ∷ []) self.new };
-}
-
-impl<K: Ord + Drop, V: Drop> Inserts<K, V> for BTreeMap<K, V> {
-    ghost holds = { HoldsSorted K.cmp };
-
-    fn empty(alloc: Global, _count: usize) -> BTreeMap<K, V> {
-        BTreeMap::new(alloc)
-    }
-
-    fn put(&mut self, key: K, value: V) -> bool {
-        BTreeMap::insert(self, key, value).is_ok()
-    }
-}
 
 /// Inserts the entries in order into an empty map.
 pub(super) fn insert_all<K: Drop, V: Drop, M: Inserts<K, V>>(
@@ -79,6 +51,17 @@ fn once_each<K: Hash + Eq + Drop, V: Drop>(
     } else {
         insert_by_hashes(alloc, entries)
     }
+}
+
+// Does the same for entries whose keys may repeat.
+fn insert_by_hashes<K: Hash + Eq + Drop, V: Drop>(
+    alloc: Global,
+    entries: Vec<(K, V)>,
+) -> Result<OrderedMap<K, V>, AllocError>
+    ensures { IfOk result (HoldsInOrder K.eq entries.items) }
+{
+    let made = once_each_unordered(alloc, entries)?;
+    Ok(OrderedMap::from_distinct(made))
 }
 
 /// Reads all keys and values. Inlined, so that the compiler knows that the entries are contiguous.

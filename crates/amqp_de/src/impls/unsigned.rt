@@ -5,10 +5,10 @@ ghost use Rattle.amqp_ser.specs.Tree.{scalar, ubyte, ushort, uint, ulong};
 
 use crate::deserialize::Deserialize;
 use crate::fault::Fault;
-use crate::keys::ordered_keys_differ;
 use crate::numbers::read_numbers;
 use crate::scalar::Scalar;
 use crate::source::Source;
+use amqp_data::ordered_keys_differ;
 use amqp_decode::prefix::{GaveUp, read_ubyte, read_uint, read_ulong, read_ushort};
 use amqp_value::{Value, ValueKind};
 use std::alloc::Global;

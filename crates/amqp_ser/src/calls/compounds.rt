@@ -90,8 +90,7 @@ pub trait SerializeCompounds: Serializer {
             (λ seq. (list_reference seq).ghost_name ≡ self.entry.ghost_name) }
         ensures succeeds { IsOk result }
     {
-        let compound = self.begin_compound(CompoundKind::List);
-        Ok(SerializeSeq::new(self, compound))
+        Ok(SerializeSeq::new(self))
     }
 
     /// Begins to serialize a tuple as a list of its elements.
@@ -116,8 +115,7 @@ pub trait SerializeCompounds: Serializer {
             (λ tuple. (list_reference tuple).ghost_name ≡ self.entry.ghost_name) }
         ensures succeeds { IsOk result }
     {
-        let compound = self.begin_compound(CompoundKind::List);
-        Ok(SerializeSeq::new(self, compound))
+        Ok(SerializeSeq::new(self))
     }
 
     /// Begins to serialize a tuple struct as a list of its fields. The name determines whether the
@@ -196,10 +194,7 @@ pub trait SerializeCompounds: Serializer {
             (λ fields. (struct_reference fields).ghost_name ≡ self.entry.ghost_name) }
         ensures succeeds { IsOk result }
     {
-        // A struct of any form begins as a single compound, because a descriptor may precede its
-        // fields. The list or the map is opened with the first field.
-        let compound = self.begin_compound(CompoundKind::Single);
-        Ok(SerializeStruct::over(self, compound, struct_encoding(name)))
+        Ok(SerializeStruct::new(self, struct_encoding(name)))
     }
 
     /// Serializes a described value: a descriptor, which is a ulong or a symbol, and a value.
@@ -251,8 +246,7 @@ pub trait SerializeCompounds: Serializer {
             (λ map. (map_reference map).ghost_name ≡ self.entry.ghost_name) }
         ensures succeeds { IsOk result }
     {
-        let compound = self.begin_compound(CompoundKind::Map);
-        Ok(SerializeMap::over(self, compound))
+        Ok(SerializeMap::new(self))
     }
 
     /// Serializes a newtype variant. In an enum named `VALUE` it is the value itself, and in an
@@ -323,8 +317,7 @@ pub trait SerializeCompounds: Serializer {
             (λ variant. (variant_reference variant).ghost_name ≡ self.entry.ghost_name) }
         ensures succeeds { IsOk result }
     {
-        let compound = self.begin_compound(CompoundKind::Variant(index));
-        Ok(SerializeTupleVariant::new(self, compound))
+        Ok(SerializeTupleVariant::new(self, index))
     }
 
     /// Begins to serialize a struct variant.
@@ -354,8 +347,7 @@ pub trait SerializeCompounds: Serializer {
             (λ variant. (struct_variant_reference variant).ghost_name ≡ self.entry.ghost_name) }
         ensures succeeds { IsOk result }
     {
-        let opened = self.begin_compound(CompoundKind::Variant(index));
-        Ok(SerializeStructVariant::new(self, opened))
+        Ok(SerializeStructVariant::new(self, index))
     }
 }
 

@@ -28,18 +28,9 @@ fn is_misplaced(form: StructEncoding, described: bool, opened: bool, descriptor:
 
 /// Serializes a field or the descriptor. The open compound is passed and returned by value, so that
 /// the caller does not keep it in memory.
-///
-/// # Errors
-/// Returns the serializer's error for the field or the descriptor. Always returns an error if the
-/// descriptor is neither a ulong nor a symbol. Returns a misuse error for a second or late
-/// descriptor, or for a second field of a single value. The compound is then unchanged.
-///
-/// # Example
-/// `true` with the key `x` appends `41` to a list and `a1017841` to a map. As the first field, the
-/// ulong 1 with the key `DESCRIPTOR` puts `005301` before the fields.
 #[tactic(auto, unfolding(crate::specs::Structs::Stands))]
 #[inline(never)]
-pub fn feed_owned<S: Serializer, T: Serialize>(
+pub(crate) fn feed_owned<S: Serializer, T: Serialize>(
     serializer: &mut S,
     compound: S::Open,
     form: StructEncoding,
@@ -90,14 +81,8 @@ pub fn feed_owned<S: Serializer, T: Serialize>(
 }
 
 /// Like `feed_owned`, with the open compound moved out of `compound` and back.
-///
-/// # Errors
-/// See `feed_owned`.
-///
-/// # Example
-/// `true` with the key `x` appends `41` to a list and `a1017841` to a map.
 #[inline(always)]
-pub fn feed_any<S: Serializer, T: Serialize>(
+pub(crate) fn feed_any<S: Serializer, T: Serialize>(
     serializer: &mut S,
     compound: &mut S::Open,
     form: StructEncoding,

@@ -53,15 +53,9 @@ fn feed_field<S: Serializer, T: Serialize>(
 
 /// Replaces a single compound by an open map or list, and serializes its first field. On an error
 /// the single compound is unchanged.
-///
-/// # Errors
-/// Returns the serializer's error for the field; no body is open then.
-///
-/// # Example
-/// The ubyte 1 with the key `x` opens the list `c003015001`, or the map `c10602a101785001`.
 #[tactic(auto, unfolding(crate::specs::Structs::Stands))]
 #[inline(always)]
-pub fn open_body<S: Serializer, T: Serialize>(
+pub(crate) fn open_body<S: Serializer, T: Serialize>(
     serializer: &mut S,
     compound: &mut S::Open,
     named: bool,
@@ -113,16 +107,9 @@ fn end_empty<S: Serializer>(
 }
 
 /// Ends a body, or the single compound if no field was serialized and no body is open.
-///
-/// # Errors
-/// Returns the serializer's error for the tree of the fields. Returns a misuse error if the form is
-/// a single value and no field was serialized.
-///
-/// # Example
-/// Without fields: the list `45`, or the map `c10100`. With the ubyte 1: the list `c003015001`.
 #[tactic(auto, unfolding(crate::specs::Structs::Stands))]
 #[inline(always)]
-pub fn end_fields<S: Serializer>(
+pub(crate) fn end_fields<S: Serializer>(
     serializer: &mut S,
     compound: S::Open,
     form: StructEncoding,

@@ -12,16 +12,9 @@ use crate::serializer::Serializer;
 
 /// Serializes the descriptor of a single compound, before its value. On an error the compound is
 /// unchanged.
-///
-/// # Errors
-/// Returns the serializer's error for the descriptor. Always returns an error if the descriptor is
-/// neither a ulong nor a symbol.
-///
-/// # Example
-/// The ulong 1 is `005301` before the value, the symbol `a:b` is `00a303613a62`.
 #[tactic(auto, unfolding(crate::specs::Structs::Stands))]
 #[inline(always)]
-pub fn feed_descriptor<S: Serializer, T: Serialize>(
+pub(crate) fn feed_descriptor<S: Serializer, T: Serialize>(
     serializer: &mut S,
     compound: &mut S::Open,
     value: &T,
@@ -42,14 +35,8 @@ pub fn feed_descriptor<S: Serializer, T: Serialize>(
 }
 
 /// Serializes the one value of a single compound. On an error the compound is unchanged.
-///
-/// # Errors
-/// Returns the serializer's error for the value.
-///
-/// # Example
-/// `true` is `41`, and after the descriptor 1 it is `00530141`.
 #[inline(always)]
-pub fn feed_single<S: Serializer, T: Serialize>(
+pub(crate) fn feed_single<S: Serializer, T: Serialize>(
     serializer: &mut S,
     compound: &mut S::Open,
     value: &T,
@@ -64,14 +51,11 @@ pub fn feed_single<S: Serializer, T: Serialize>(
 }
 
 /// Ends a single compound that has its one value.
-///
-/// # Errors
-/// Returns the serializer's error for the value. Always returns an error if the value has no tree.
-///
-/// # Example
-/// `true` is `41`, and after the descriptor 1 it is `00530141`.
 #[inline(always)]
-pub fn end_single<S: Serializer>(serializer: &mut S, compound: S::Open) -> Result<S::Ok, S::Error>
+pub(crate) fn end_single<S: Serializer>(
+    serializer: &mut S,
+    compound: S::Open,
+) -> Result<S::Ok, S::Error>
     ensures { (start : S) (p : Option Tree) → S.has start CompoundKind.Single serializer.old compound (p ∷ []) →
         S.permits start p result serializer.new }
 {
@@ -80,19 +64,9 @@ pub fn end_single<S: Serializer>(serializer: &mut S, compound: S::Open) -> Resul
 
 /// Serializes a described value, like a struct named `DESCRIBED_BASIC` with a descriptor and one
 /// field.
-///
-/// # Encoding
-/// `00`, the descriptor and the value (AMQP 1.0 part 1, section 1.2).
-///
-/// # Errors
-/// Returns the serializer's error for the described value. Always returns an error if the
-/// descriptor is neither a ulong nor a symbol, or if the value has no tree.
-///
-/// # Example
-/// The code 1 and `true` are `00530141`.
 #[tactic(auto, unfolding(crate::specs::Structs::Stands))]
 #[inline(always)]
-pub fn serialize_described<S: Serializer, D: Serialize, T: Serialize>(
+pub(crate) fn serialize_described<S: Serializer, D: Serialize, T: Serialize>(
     serializer: &mut S,
     descriptor: &D,
     value: &T,

@@ -10,14 +10,8 @@ use crate::serialize::Serialize;
 use crate::serializer::Serializer;
 
 /// Serializes one more part of an open compound. On an error the compound is unchanged.
-///
-/// # Errors
-/// Returns the serializer's error for the part.
-///
-/// # Example
-/// `true` appends `41` to a list, and to a map as a key or a value.
 #[inline(always)]
-pub fn feed_part<S: Serializer, T: Serialize>(
+pub(crate) fn feed_part<S: Serializer, T: Serialize>(
     serializer: &mut S,
     compound: &mut S::Open,
     value: &T,
@@ -32,14 +26,8 @@ pub fn feed_part<S: Serializer, T: Serialize>(
 }
 
 /// Serializes one more entry of an open map. On an error the map is unchanged.
-///
-/// # Errors
-/// Returns the serializer's error for the key or the value.
-///
-/// # Example
-/// The ubyte 1 and `true` append `500141`.
 #[inline(always)]
-pub fn feed_entry<S: Serializer, K: Serialize, V: Serialize>(
+pub(crate) fn feed_entry<S: Serializer, K: Serialize, V: Serialize>(
     serializer: &mut S,
     compound: &mut S::Open,
     key: &K,

@@ -65,15 +65,9 @@ fn close_first<S: Serializer>(
 
 /// Serializes one more field of a list. At the first field, the list replaces a single compound. On
 /// an error the compound that was open before the call is unchanged.
-///
-/// # Errors
-/// Returns the serializer's error for the field.
-///
-/// # Example
-/// A first field `true` opens the list `c0020141`; a second one extends it to `c003024141`.
 #[tactic(auto, unfolding(crate::specs::Structs::Stands))]
 #[inline(always)]
-pub fn feed_list_field<S: Serializer, T: Serialize>(
+pub(crate) fn feed_list_field<S: Serializer, T: Serialize>(
     serializer: &mut S,
     compound: &mut S::Open,
     opened: bool,

@@ -41,20 +41,6 @@ impl<S: Serializer> Drop for SerializeMap<'_, S> {
 impl<'a, S: Serializer> SerializeMap<'a, S> {
     ghost use Rattle.amqp_ser.specs.contracts.compound.map.SerializeMap.{the_row};
 
-    #[inline(always)]
-    pub(crate) fn over(serializer: &'a mut S, compound: S::Open) -> SerializeMap<'a, S>
-        ensures same_reference { result.serializer.ghost_name ≡ serializer.entry.ghost_name }
-        ensures now { result.serializer.now ≡ serializer.old }
-        ensures compound { result.compound ≡ compound }
-        ensures no_key { result.pending ≡ false }
-    {
-        SerializeMap {
-            serializer,
-            compound,
-            pending: false,
-        }
-    }
-
     /// Begins a map in a serializer, as `serialize_map` does.
     ///
     /// # Encoding
@@ -70,7 +56,11 @@ impl<'a, S: Serializer> SerializeMap<'a, S> {
             ≡ serializer.entry.ghost_name }
     {
         let compound = serializer.begin_compound(CompoundKind::Map);
-        SerializeMap::over(serializer, compound)
+        SerializeMap {
+            serializer,
+            compound,
+            pending: false,
+        }
     }
 
     /// Returns the serializer of the map. The map continues with the state that the caller leaves

@@ -39,12 +39,20 @@ impl<S: Serializer> Drop for SerializeSeq<'_, S> {
 impl<'a, S: Serializer> SerializeSeq<'a, S> {
     ghost use Rattle.amqp_ser.specs.contracts.compound.sequence.SerializeSeq.{the_row};
 
+    /// Begins a list in a serializer, as `serialize_seq` does.
+    ///
+    /// # Encoding
+    /// A list (AMQP 1.0 part 1, section 1.6.22).
+    ///
+    /// # Example
+    /// Without elements, the list is `45`.
     #[inline(always)]
-    pub(crate) fn new(serializer: &'a mut S, compound: S::Open) -> SerializeSeq<'a, S>
-        ensures same_reference { result.serializer.ghost_name ≡ serializer.entry.ghost_name }
-        ensures now { result.serializer.now ≡ serializer.old }
-        ensures compound { result.compound ≡ compound }
+    pub fn new(serializer: &'a mut S) -> SerializeSeq<'a, S>
+        ensures opened { ListHas S.has serializer.old result [] }
+        ensures same_reference { (list_reference result).ghost_name
+            ≡ serializer.entry.ghost_name }
     {
+        let compound = serializer.begin_compound(CompoundKind::List);
         SerializeSeq {
             serializer,
             compound,
@@ -72,8 +80,8 @@ impl<'a, S: Serializer> SerializeSeq<'a, S> {
     /// accepting elements.
     ///
     /// # Example
-    /// The string `a` appends `a10161`. Under `Marker::Array` it appends `0000000161`, and the first
-    /// element also the constructor `b1`.
+    /// The string `a` appends `a10161`. Under `Marker::Array` it appends `0000000161`, and the
+    /// first element also the constructor `b1`.
     #[inline(always)]
     pub fn serialize_element<T: Serialize>(&mut self, value: &T) -> Result<(), S::Error>
         ensures same { (list_reference self.new).ghost_name

@@ -40,12 +40,20 @@ impl<S: Serializer> Drop for SerializeStructVariant<'_, S> {
 impl<'a, S: Serializer> SerializeStructVariant<'a, S> {
     ghost use Rattle.amqp_ser.specs.contracts.compound.struct_variant.SerializeStructVariant.{the_row};
 
+    /// Begins a variant of this index in a serializer, as `serialize_struct_variant` does.
+    ///
+    /// # Encoding
+    /// A map of one pair (AMQP 1.0 part 1, section 1.6.23).
+    ///
+    /// # Example
+    /// The index 1 without fields is `c10402520145`.
     #[inline(always)]
-    pub(crate) fn new(serializer: &'a mut S, compound: S::Open) -> SerializeStructVariant<'a, S>
-        ensures same_reference { result.serializer.ghost_name ≡ serializer.entry.ghost_name }
-        ensures now { result.serializer.now ≡ serializer.old }
-        ensures compound { result.compound ≡ compound }
+    pub fn new(serializer: &'a mut S, index: u32) -> SerializeStructVariant<'a, S>
+        ensures opened { StructVariantHas S.has serializer.old index result [] }
+        ensures same_reference { (struct_variant_reference result).ghost_name
+            ≡ serializer.entry.ghost_name }
     {
+        let compound = serializer.begin_compound(CompoundKind::Variant(index));
         SerializeStructVariant {
             serializer,
             compound,

@@ -54,19 +54,18 @@ impl<S: Serializer> Drop for SerializeStruct<'_, S> {
 impl<'a, S: Serializer> SerializeStruct<'a, S> {
     ghost use Rattle.amqp_ser.specs.contracts.compound.structs.SerializeStruct.{the_row};
 
+    // A struct of any form begins as a single compound, because a descriptor may precede its
+    // fields. The list or the map is opened with the first field.
+    #[tactic(auto, unfolding(crate::specs::Structs::Stands))]
     #[inline(always)]
-    pub(crate) fn over(
-        serializer: &'a mut S,
-        compound: S::Open,
-        form: StructEncoding,
-    ) -> SerializeStruct<'a, S>
-        ensures same_reference { result.serializer.ghost_name ≡ serializer.entry.ghost_name }
-        ensures now { result.serializer.now ≡ serializer.old }
-        ensures compound { result.compound ≡ compound }
-        ensures form { result.form ≡ form }
-        ensures described { result.described ≡ false }
-        ensures opened { result.opened ≡ false }
+    pub(crate) fn new(serializer: &'a mut S, form: StructEncoding) -> SerializeStruct<'a, S>
+        ensures opened { StructHas S.permits S.has serializer.old None CompoundKind.Single result [] }
+        ensures form { form_of result ≡ form }
+        ensures empty { (has_descriptor result ≡ false) × (has_field result ≡ false) }
+        ensures same_reference { (struct_reference result).ghost_name
+            ≡ serializer.entry.ghost_name }
     {
+        let compound = serializer.begin_compound(CompoundKind::Single);
         SerializeStruct {
             serializer,
             compound,
@@ -83,7 +82,6 @@ impl<'a, S: Serializer> SerializeStruct<'a, S> {
     ///
     /// # Example
     /// The one field `x`, the ubyte 1, is `c003015001`.
-    #[tactic(auto, unfolding(crate::specs::Structs::Stands))]
     #[inline(always)]
     pub fn list(serializer: &'a mut S, _len: usize) -> SerializeStruct<'a, S>
         ensures opened { StructHas S.permits S.has serializer.old None CompoundKind.Single result [] }
@@ -92,8 +90,7 @@ impl<'a, S: Serializer> SerializeStruct<'a, S> {
         ensures same_reference { (struct_reference result).ghost_name
             ≡ serializer.entry.ghost_name }
     {
-        let compound = serializer.begin_compound(CompoundKind::Single);
-        SerializeStruct::over(serializer, compound, StructEncoding::List)
+        SerializeStruct::new(serializer, StructEncoding::List)
     }
 
     /// Begins a struct whose fields are a map from their names.
@@ -103,7 +100,6 @@ impl<'a, S: Serializer> SerializeStruct<'a, S> {
     ///
     /// # Example
     /// The one field `x`, the ubyte 1, is `c10602a101785001`.
-    #[tactic(auto, unfolding(crate::specs::Structs::Stands))]
     #[inline(always)]
     pub fn map(serializer: &'a mut S) -> SerializeStruct<'a, S>
         ensures opened { StructHas S.permits S.has serializer.old None CompoundKind.Single result [] }
@@ -112,8 +108,7 @@ impl<'a, S: Serializer> SerializeStruct<'a, S> {
         ensures same_reference { (struct_reference result).ghost_name
             ≡ serializer.entry.ghost_name }
     {
-        let compound = serializer.begin_compound(CompoundKind::Single);
-        SerializeStruct::over(serializer, compound, StructEncoding::Map)
+        SerializeStruct::new(serializer, StructEncoding::Map)
     }
 
     /// Begins a struct that is its one field.
@@ -123,7 +118,6 @@ impl<'a, S: Serializer> SerializeStruct<'a, S> {
     ///
     /// # Example
     /// The one field `x`, the ubyte 1, is `5001`.
-    #[tactic(auto, unfolding(crate::specs::Structs::Stands))]
     #[inline(always)]
     pub fn basic(serializer: &'a mut S) -> SerializeStruct<'a, S>
         ensures opened { StructHas S.permits S.has serializer.old None CompoundKind.Single result [] }
@@ -132,8 +126,7 @@ impl<'a, S: Serializer> SerializeStruct<'a, S> {
         ensures same_reference { (struct_reference result).ghost_name
             ≡ serializer.entry.ghost_name }
     {
-        let compound = serializer.begin_compound(CompoundKind::Single);
-        SerializeStruct::over(serializer, compound, StructEncoding::Single)
+        SerializeStruct::new(serializer, StructEncoding::Single)
     }
 
     /// Returns the serializer of the struct. The struct continues with the state that the caller

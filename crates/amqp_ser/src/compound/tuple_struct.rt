@@ -1,31 +1,24 @@
 //! Tuple structs: lists of their fields. The first field may be a descriptor.
 
-ghost use Rattle.std.specs.Prelude.{◌≡◌, [], IfOk, IfErr, ◌||◌, not, false};
+ghost use Rattle.std.specs.Prelude.{◌≡◌, [], IfOk, IfErr, None, ◌||◌, not, true, false};
 ghost use mir.Syntax.{named};
 ghost use Rattle.std.specs.Borrow.{Lends, sem};
 ghost use Rattle.amqp_ser.specs.StructFeeding.{TupleFieldStep};
-ghost use Rattle.amqp_ser.specs.OpenStructs.{tuple_struct_reference, tuple_struct_with_serializer, is_single, lacks_descriptor, is_open, TupleStructFieldStep, EndsTupleStruct};
+ghost use Rattle.amqp_ser.specs.OpenStructs.{tuple_struct_reference, tuple_struct_with_serializer, is_single, lacks_descriptor, is_open, TupleStructFieldStep, TupleStructHas, EndsTupleStruct};
 
 use super::body::{end_fields, open_body};
 use super::described::{feed_descriptor, feed_single};
 use super::feed::feed_part;
+use crate::kind::CompoundKind;
 use crate::serialize::Serialize;
 use crate::serializer::Serializer;
 use crate::struct_encoding::StructEncoding;
 
 /// Serializes a field, or the descriptor, of a tuple struct: of one whose body is a single field,
 /// that lacks its descriptor, or that has a field or is a list that has been open from the start.
-///
-/// # Errors
-/// Returns the serializer's error for the field or the descriptor. Always returns an error if the
-/// descriptor is neither a ulong nor a symbol. Returns a misuse error for a second field of a single
-/// value. The compound is then unchanged.
-///
-/// # Example
-/// `true` appends `41` to a list that has been open from the start.
 #[tactic(auto, unfolding(crate::specs::Structs::Stands))]
 #[inline(always)]
-pub fn feed_tuple_field<S: Serializer, T: Serialize>(
+pub(crate) fn feed_tuple_field<S: Serializer, T: Serialize>(
     serializer: &mut S,
     compound: &mut S::Open,
     single: bool,
@@ -112,6 +105,66 @@ impl<'a, S: Serializer> SerializeTupleStruct<'a, S> {
             wants_descriptor,
             opened: !wants_descriptor,
         }
+    }
+
+    /// Begins a descriptor and one field.
+    ///
+    /// # Encoding
+    /// `00`, the descriptor and the field (AMQP 1.0 part 1, section 1.2).
+    ///
+    /// # Example
+    /// The ulong 1 and `true` are `00530141`.
+    #[tactic(auto, unfolding(crate::specs::Structs::Stands))]
+    #[inline(always)]
+    pub fn basic(serializer: &'a mut S) -> SerializeTupleStruct<'a, S>
+        ensures opened { TupleStructHas S.permits S.has serializer.old None CompoundKind.Single result [] }
+        ensures form { is_single result ≡ true }
+        ensures awaits { (lacks_descriptor result ≡ true) × (is_open result ≡ false) }
+        ensures same_reference { (tuple_struct_reference result).ghost_name
+            ≡ serializer.entry.ghost_name }
+    {
+        let compound = serializer.begin_compound(CompoundKind::Single);
+        SerializeTupleStruct::new(serializer, compound, true, true)
+    }
+
+    /// Begins a descriptor and a list of the other fields. The length is a hint and is not used.
+    ///
+    /// # Encoding
+    /// `00`, the descriptor and a list (AMQP 1.0 part 1, section 1.2).
+    ///
+    /// # Example
+    /// The ulong 1 and `true` are `005301c0020141`.
+    #[tactic(auto, unfolding(crate::specs::Structs::Stands))]
+    #[inline(always)]
+    pub fn list(serializer: &'a mut S, _len: usize) -> SerializeTupleStruct<'a, S>
+        ensures opened { TupleStructHas S.permits S.has serializer.old None CompoundKind.Single result [] }
+        ensures form { is_single result ≡ false }
+        ensures awaits { (lacks_descriptor result ≡ true) × (is_open result ≡ false) }
+        ensures same_reference { (tuple_struct_reference result).ghost_name
+            ≡ serializer.entry.ghost_name }
+    {
+        let compound = serializer.begin_compound(CompoundKind::Single);
+        SerializeTupleStruct::new(serializer, compound, false, true)
+    }
+
+    /// Begins a list of the fields. The length is a hint and is not used.
+    ///
+    /// # Encoding
+    /// A list (AMQP 1.0 part 1, section 1.6.22).
+    ///
+    /// # Example
+    /// The ubyte 1 and `true` are `c00402500141`.
+    #[tactic(auto, unfolding(crate::specs::Structs::Stands))]
+    #[inline(always)]
+    pub fn list_fields(serializer: &'a mut S, _len: usize) -> SerializeTupleStruct<'a, S>
+        ensures opened { TupleStructHas S.permits S.has serializer.old None CompoundKind.List result [] }
+        ensures form { is_single result ≡ false }
+        ensures awaits { (lacks_descriptor result ≡ false) × (is_open result ≡ true) }
+        ensures same_reference { (tuple_struct_reference result).ghost_name
+            ≡ serializer.entry.ghost_name }
+    {
+        let compound = serializer.begin_compound(CompoundKind::List);
+        SerializeTupleStruct::new(serializer, compound, false, false)
     }
 
     /// Returns the serializer of the struct. The struct continues with the state that the caller

@@ -40,12 +40,20 @@ impl<S: Serializer> Drop for SerializeTupleVariant<'_, S> {
 impl<'a, S: Serializer> SerializeTupleVariant<'a, S> {
     ghost use Rattle.amqp_ser.specs.contracts.compound.variant.SerializeTupleVariant as tuple_variant;
 
+    /// Begins a variant of this index in a serializer, as `serialize_tuple_variant` does.
+    ///
+    /// # Encoding
+    /// A map of one pair (AMQP 1.0 part 1, section 1.6.23).
+    ///
+    /// # Example
+    /// The index 1 without fields is `c10402520145`.
     #[inline(always)]
-    pub(crate) fn new(serializer: &'a mut S, compound: S::Open) -> SerializeTupleVariant<'a, S>
-        ensures same_reference { result.serializer.ghost_name ≡ serializer.entry.ghost_name }
-        ensures now { result.serializer.now ≡ serializer.old }
-        ensures compound { result.compound ≡ compound }
+    pub fn new(serializer: &'a mut S, index: u32) -> SerializeTupleVariant<'a, S>
+        ensures opened { VariantHas S.has serializer.old index result [] }
+        ensures same_reference { (variant_reference result).ghost_name
+            ≡ serializer.entry.ghost_name }
     {
+        let compound = serializer.begin_compound(CompoundKind::Variant(index));
         SerializeTupleVariant {
             serializer,
             compound,

@@ -3,15 +3,15 @@
 ghost use Rattle.std.specs.Prelude.{◌≡◌, ◌≤◌, List, [], MatchResult, IsSomeAnd, IfErr};
 ghost use Rattle.std.specs.List.{AllZip};
 ghost use Rattle.amqp_data.specs.Items.{array_items};
-ghost use Rattle.amqp_data.specs.Pairs.{entries_of};
+ghost use Rattle.amqp_data.specs.Pairs.{entries_of, insert_pairs};
 ghost use Rattle.amqp_ser.specs.Tree.{scalar, string};
 ghost use Rattle.amqp_value.specs.Contents.{array_in, described_in, list_in, map_in};
 ghost use Rattle.amqp_value.specs.Converts.{IsMapOf};
-ghost use Rattle.amqp_value.specs.Places.{equal, merged};
+ghost use Rattle.amqp_value.specs.Equal.{equal};
 ghost use Rattle.amqp_value.specs.TreeOf.{tree_of};
 
 use crate::Value;
-use crate::distinct::once_each_converted;
+use crate::distinct::converted_map_of;
 use amqp_data::{Array, Described, Error, OrderedMap};
 use std::alloc::Global;
 use std::collections::BTreeMap;
@@ -115,8 +115,8 @@ impl Value {
     /// # Memory
     /// Allocates once from `alloc` for the entries, or not at all if there are none. The capacity is
     /// a power of two, at least 4, as after insertions one by one. To find equal keys, it allocates
-    /// as `MapBuilder::into_value` if all keys are short (`is_short_key`). Otherwise it allocates a
-    /// block for the entries from the first repeated key on, if there is one.
+    /// as `MapBuilder::into_value` if all keys are short (`is_short_key`) or if there are many.
+    /// Otherwise it allocates a block for the entries from the first repeated key on, if there is one.
     ///
     /// # Example
     /// `1u8` to `true` gives a `Map` that is encoded as `c10402500141`.
@@ -148,8 +148,8 @@ impl Value {
     /// # Memory
     /// Allocates once from `alloc` for the entries, or not at all if there are none. The capacity is
     /// a power of two, at least 4, as after insertions one by one. To find equal keys, it allocates
-    /// as `MapBuilder::into_value` if all keys are short (`is_short_key`). Otherwise it allocates a
-    /// block for the entries from the first repeated key on, if there is one.
+    /// as `MapBuilder::into_value` if all keys are short (`is_short_key`) or if there are many.
+    /// Otherwise it allocates a block for the entries from the first repeated key on, if there is one.
     ///
     /// # Example
     /// The ubyte keys 2 to `true` and 1 to `false` give a `Map` that is encoded as
@@ -188,11 +188,11 @@ fn convert_items<T: Into<Value> + Drop>(alloc: Global, items: Vec<T>) -> Result<
 // Returns the map of the entries, inserted in order.
 fn inserted(alloc: Global, pairs: Vec<(Value, Value)>) -> Result<Value, Error>
     ensures { MatchResult result
-        (λ v. IsSomeAnd (map_in v) (λ map. entries_of map ≡ merged equal pairs.items []))
+        (λ v. IsSomeAnd (map_in v) (λ map. entries_of map ≡ insert_pairs equal pairs.items []))
         (λ e. e ≡ Error.OutOfMemory) }
 {
-    let entries = once_each_converted(alloc, pairs)?;
-    Ok(Value::Map(OrderedMap::from_distinct(entries)))
+    let entries = converted_map_of(alloc, pairs)?;
+    Ok(Value::Map(entries))
 }
 
 // Returns the capacity of a vector of entries to which `len` entries were pushed: a power of two, at

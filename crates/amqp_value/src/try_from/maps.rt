@@ -5,19 +5,15 @@ ghost use Rattle.std.specs.Prelude.{◌≡◌, []};
 ghost use Rattle.std.specs.HashMap.{IsFromIterResult};
 ghost use Rattle.indexmap.specs.IndexMap.{insert_all};
 ghost use Rattle.amqp_data.specs.Pairs.{entries_of};
-ghost use Rattle.amqp_value.specs.Converts.{MapGives, inserted_in_order, inserted_sorted};
+ghost use Rattle.amqp_value.specs.Converts.{MapGives, PairsGive, inserted_in_order, inserted_sorted};
 
 use super::ConvertFault;
 use super::pairs::convert_pairs;
 use crate::Value;
-use amqp_data::{OrderedMap, OrderedMapBuilder};
+use amqp_data::{MIN_INDEXED, OrderedMap, OrderedMapBuilder};
 use indexmap::IndexMap;
 use std::collections::{BTreeMap, HashMap};
 use std::hash::Hash;
-
-// The number of entries from which on an index costs less than comparing each key with each one
-// before it.
-const MANY: usize = 48;
 
 /// Converts a `Map`. Inserts its entries in order, each key converted before its value.
 ///
@@ -47,7 +43,7 @@ where
         match value {
             Value::Map(pairs) => {
                 let pairs = pairs.into_inner();
-                if pairs.len() < MANY {
+                if pairs.len() < MIN_INDEXED {
                     return convert_pairs::<K, V, OrderedMap<K, V>>(pairs);
                 }
                 match convert_pairs::<K, V, OrderedMapBuilder<K, V>>(pairs) {
@@ -148,8 +144,19 @@ where
 
     fn try_from(value: Value) -> Result<HashMap<K, V>, ConvertFault> {
         match value {
-            Value::Map(pairs) => convert_pairs(pairs.into_inner()),
+            Value::Map(pairs) => convert_hashed(pairs.into_inner()),
             other => Err(ConvertFault::Unfit(other)),
         }
     }
+}
+
+// Converts the entries and inserts them in order.
+fn convert_hashed<K, V>(pairs: Vec<(Value, Value)>) -> Result<HashMap<K, V>, ConvertFault>
+where
+    K: TryFrom<Value, Error = Value> + Hash + Eq + Drop,
+    V: TryFrom<Value, Error = Value> + Drop,
+    ensures { PairsGive K.try_from_gives V.try_from_gives (λ done map. IsFromIterResult K.eq done map)
+        pairs.items result }
+{
+    convert_pairs(pairs)
 }

@@ -1,7 +1,7 @@
 //! A described list that omits the absent fields at its end.
 //!
-//! For readers who need composites as the AMQP standard writes them. `tools/derive` writes the impls
-//! from the annotation above the struct.
+//! For readers who need composites as the AMQP standard writes them. `tools/derive` writes the
+//! impls from the annotation above the struct.
 
 mod derived;
 

@@ -3,5 +3,5 @@
 pub use amqp_to_value::{
     MapSerializer, SeqSerializer, Serializer, StructSerializer, StructSerializerKind,
     StructVariantSerializer, TupleSerializer, TupleStructSerializer, TupleStructSerializerKind,
-    VariantSerializer,
+    ValueError, VariantSerializer,
 };

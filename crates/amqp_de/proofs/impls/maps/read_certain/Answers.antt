@@ -3,7 +3,8 @@ use Rattle.std.specs.List.{AllZip}
 use Rattle.std.specs.Map.{keys_of}
 use Rattle.amqp_ser.specs.Tree.{Tree}
 use Rattle.amqp_de.specs.Maps.{AreApart}
-use Rattle.amqp_de.proofs.MapReadings.{keys_read, on_true}
+use Rattle.amqp_data.proofs.IndexLemmas.{on_true}
+use Rattle.amqp_de.proofs.MapReadings.{keys_read}
 use Rattle.amqp_de.proofs.impls.maps.read_certain.Goals as goal
 
 pub returns-then-knows-clause-ok : goal.returns-then-knows-clause-ok

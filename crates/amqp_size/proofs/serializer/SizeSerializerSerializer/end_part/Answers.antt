@@ -11,7 +11,7 @@ use Rattle.amqp_size.specs.declared.open_compound.OpenCompound.{OpenCompound}
 use Rattle.amqp_size.specs.declared.serializer.SizeSerializer.{SizeSerializer}
 use Rattle.amqp_size.specs.State.{context_at}
 use Rattle.amqp_size.proofs.Settled.{settled}
-use Rattle.amqp_size.proofs.Holding.{Taking, refused_any, taken_any}
+use Rattle.amqp_size.proofs.Holding.{refused_any, taken_any}
 use Rattle.amqp_size.proofs.serializer.SizeSerializerSerializer.end_part.Goals as goal
 
 -- What holds after a part, given what is proved about it.
@@ -50,16 +50,5 @@ returns-clause-step c = λ start kind before ps p w r.
     let after = context_at u compound.prefix_len in
     let counted = subst (λ q. AtPosition (position_of compound.inner_context) (meant compound.inner_context p) (Ok size) q) (sym (settled (position_of compound.inner_context) (meant compound.inner_context p) size u c.self.inside.prefix_len compound.prefix_len stood)) stood in
     let t = c.add_part.ensures in
-    let taking : Taking compound c.add_part.new.self size after c.add_part.result = record {
-      position = t.position;
-      resolved_kind = t.resolved_kind;
-      few = t.few;
-      small = t.small;
-      kept = t.kept;
-      before_last = t.before_last;
-      gathered = t.gathered;
-      transparent = t.transparent;
-      single = t.single;
-    } in
     known start kind compound c.add_part.new.self ps p c.add_part.result _ w.0 (ap Plain (c.without_prefix.ensures compound.prefix_len _ ∙ ap without_prefix c.position.ensures)) t.position t.kept
-    (taken_any start kind compound c.add_part.new.self ps w.0 p size after counted c.add_part.result taking)
+    (taken_any start kind compound c.add_part.new.self ps w.0 p size after counted c.add_part.result t)

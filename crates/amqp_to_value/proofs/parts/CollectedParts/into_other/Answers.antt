@@ -1,6 +1,6 @@
 use Rattle.std.proofs.Common.{subst, Some}
 use Rattle.amqp_to_value.specs.HeldImages.{HoldsImages, compound_tree, RefusesOpened}
-use Rattle.amqp_data.specs.declared.error.Error.TheVariants.{InvalidValue}
+use Rattle.amqp_to_value.specs.declared.value_error.ValueError.TheVariants.{InvalidValue}
 use Rattle.std.proofs.Common.{sym}
 use Rattle.amqp_to_value.proofs.HeldImagesLemmas.{not_one}
 use Rattle.amqp_to_value.proofs.parts.CollectedParts.into_other.Goals as goal

@@ -1,10 +1,10 @@
 use Rattle.std.proofs.Common.{◌≡◌, true, [], ◌∷◌, ◌++◌, Ok, Err, sym, ◌∙◌, subst, append-nil, rules}
-use Rattle.amqp_data.specs.declared.error.Error.TheVariants.{InvalidValue}
+use Rattle.amqp_to_value.specs.declared.value_error.ValueError.TheVariants.{InvalidValue}
 use Rattle.amqp_ser.specs.Carried.{descriptor_content}
 use Rattle.amqp_ser.specs.Composites.{as_described, descriptor_of}
 use Rattle.amqp_to_value.specs.PendingDescriptors.{standing}
 use Rattle.amqp_to_value.specs.ValueSerializer.{IsSaved, meant_by, ValuePermits}
-use Rattle.amqp_to_value.specs.ImageOf.{refuses}
+use Rattle.amqp_to_value.specs.ImageOf.{error_of, refuses}
 use Rattle.amqp_to_value.proofs.AnswerLemmas.{kept_same, parted_again, saved_after}
 use Rattle.amqp_to_value.proofs.DescriptorLemmas.{descriptor_answer, descriptor_refused, no_descriptor, permitted_before, same_descriptor}
 use Rattle.amqp_to_value.proofs.serializer.SerializerSerializer.end_descriptor.Goals as goal
@@ -17,7 +17,7 @@ returns-in_err-part-clause-step c = λ start before d h r.
     (λ rest at. c.release.ensures.parted start.descriptors.kept (standing start.descriptors) rest at h.0) in
     let refused = descriptor_answer start before d (Err e) h.2 answer.0 in
     let same : c.from_residual.result ≡ Err e = search rules in
-    rw same ((h.0, h.1, saved), λ t. (descriptor_refused start d e refused t, saved))
+    rw same ((h.0, h.1, saved), λ t. (descriptor_refused start d (error_of e) refused t, saved))
 
 pub returns-in_err-descriptor-clause-step : goal.returns-in_err-descriptor-clause-step
 returns-in_err-descriptor-clause-step c = λ start before d h r.
@@ -41,7 +41,7 @@ returns-in_err-compound-clause-step c = λ start before d h r.
     let after = c.in_err-compound.ensures start.descriptors.kept (standing start.descriptors) c.args.self.now.descriptors.later rel.0 rel.1 (c.release.ensures.next ∙ kept.0.1) h.0 in
     let saved : IsSaved start (record { alloc = c.args.self.now.alloc; pending = c.args.self.now.pending; descriptors = c.describe.new.self; capacity = c.args.self.now.capacity }) = (((kept.0.0, after.4), after.1), (after.2, after.3)) in
     let same : c.from_residual-in_err-compound.result ≡ Err e = search rules in
-    rw same ((h.0, h.1, saved), λ t. (subst (λ x. refuses x (meant_by start (as_described (descriptor_of d) t))) (sym after.0) tt, saved))
+    rw same ((h.0, h.1, saved), λ t. (subst (λ x. refuses (error_of x) (meant_by start (as_described (descriptor_of d) t))) (sym after.0) tt, saved))
 
 pub returns-clause-step : goal.returns-clause-step
 returns-clause-step c = λ start before d h r.

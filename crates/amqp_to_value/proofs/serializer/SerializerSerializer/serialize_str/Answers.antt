@@ -1,12 +1,12 @@
 use Rattle.std.proofs.Common.{Some, ap, subst}
 use Rattle.amqp_ser.specs.Tree.{scalar, string}
 use Rattle.amqp_to_value.specs.PendingDescriptors.{standing}
-use Rattle.amqp_to_value.specs.ImageOf.{IsImageOf}
-use Rattle.amqp_to_value.specs.PendingMarker.{meant}
+use Rattle.amqp_to_value.specs.ImageOf.{Answers}
+use Rattle.amqp_ser.specs.Meant.{meant}
 use Rattle.amqp_to_value.proofs.ScalarLemmas.{text_answer}
 use Rattle.amqp_to_value.proofs.serializer.SerializerSerializer.serialize_str.Goals as goal
 
 pub returns : goal.returns
 returns c =
     c.finish.ensures c.args.self.now _ (ap (λ a. a.kept) c.take_pending-pending.ensures.descriptors) (ap standing c.take_pending-pending.ensures.descriptors) c.take_pending-pending.ensures.none
-    (subst (λ u. IsImageOf (meant u (Some (scalar (string c.args.v.now)))) c.marked_text.result) c.take_pending-pending.ensures.pending (text_answer c.take_pending-pending.result c.args.v.now c.marked_text.result c.marked_text.ensures.image))
+    (subst (λ u. Answers (meant u (Some (scalar (string c.args.v.now)))) c.marked_text.result) c.take_pending-pending.ensures.pending (text_answer c.take_pending-pending.result c.args.v.now c.marked_text.result c.marked_text.ensures.image))

@@ -1,7 +1,7 @@
 use Rattle.std.proofs.Common.{Ok, sym, subst}
 use Rattle.amqp_ser.specs.Compounds.{tree_of_parts}
 use Rattle.amqp_wire.specs.EmptyArrays.{Finds}
-use Rattle.amqp_wire.specs.Pending.{meant}
+use Rattle.amqp_ser.specs.Meant.{meant}
 use Rattle.amqp_wire.specs.declared.finder.NoTree.{NoTree}
 use Rattle.amqp_wire.proofs.Parts.{ended, not_ended}
 use Rattle.amqp_wire.proofs.finder.FinderSerializer.end.Goals as goal

@@ -1,11 +1,12 @@
 use Rattle.std.proofs.Common.{◌≡◌, refl, sym, subst, Bool, Option, Some, None, Result, Ok, Err}
 use Rattle.amqp_ser.specs.Tree.{Tree, Descriptor}
 use Rattle.amqp_ser.specs.Composites.{as_described, descriptor_of}
+use Rattle.amqp_ser.proofs.Meant.{descriptor_there}
 use Rattle.amqp_wire.specs.EmptyArrays.{Finds}
-use Rattle.amqp_wire.specs.Pending.{meant, only_as}
+use Rattle.amqp_ser.specs.Meant.{as_descriptor, meant}
 use Rattle.amqp_wire.specs.declared.finder.Finder.{Finder}
 use Rattle.amqp_wire.specs.declared.finder.NoTree.{NoTree}
-use Rattle.amqp_wire.specs.declared.pending.Pending.TheVariants as pending
+use Rattle.amqp_ser.specs.declared.pending.Pending.TheVariants as pending
 use Rattle.amqp_wire.proofs.finder.FinderSerializer.end_descriptor.Goals as goal
 
 -- A described value has what its value has.
@@ -15,19 +16,15 @@ described_from d None (Err e) h = h
 described_from d (Some t) (Ok b) h = h
 described_from d (Some t) (Err e) h = h
 
--- A tree that is valid as a descriptor is one.
-some_of : (o : Option Descriptor) (t : Tree) (b : Bool) → Finds {E = NoTree} (only_as o t) (Ok b) → (d : Descriptor) × (o ≡ Some d)
-some_of None t b h = absurd h
-some_of (Some d) t b h = (d, refl)
-
-descriptor_there : (p : Option Tree) (b : Bool) → Finds {E = NoTree} (meant pending.Descriptor p) (Ok b) → (d : Descriptor) × (descriptor_of p ≡ Some d)
-descriptor_there None b h = absurd h
-descriptor_there (Some t) b h = some_of (descriptor_of (Some t)) t b h
+tree_of_found : (o : Option Tree) (b : Bool) → Finds {E = NoTree} o (Ok b) → (t : Tree) × (o ≡ Some t)
+tree_of_found None b h = absurd h
+tree_of_found (Some t) b h = (t, refl)
 
 pub returns-in-Ok-clause-step : goal.returns-in-Ok-clause-step
 returns-in-Ok-clause-step c = λ start before p h given.
     let finds = subst (λ (f : Finder). Finds {E = NoTree} (meant f.pending p) c.args.part) h.1 given.0 in
-    let there = descriptor_there p c.in-Ok.field-0 (subst (Finds {E = NoTree} (meant pending.Descriptor p)) c.in-Ok.is finds) in
+    let valid = tree_of_found (as_descriptor p) c.in-Ok.field-0 (subst (Finds {E = NoTree} (meant pending.Descriptor p)) c.in-Ok.is finds) in
+    let there = descriptor_there p valid.0 valid.1 in
     let inner = c.with_descriptor-compound.result in (
       record { pending = inner },
       (

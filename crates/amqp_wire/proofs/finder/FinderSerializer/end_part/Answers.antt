@@ -1,6 +1,6 @@
 use Rattle.std.proofs.Common.{refl, subst}
 use Rattle.amqp_wire.specs.EmptyArrays.{Finds}
-use Rattle.amqp_wire.specs.Pending.{meant}
+use Rattle.amqp_ser.specs.Meant.{meant}
 use Rattle.amqp_wire.specs.declared.finder.Finder.{Finder}
 use Rattle.amqp_wire.specs.declared.finder.NoTree.{NoTree}
 use Rattle.amqp_wire.proofs.Parts.{taken, refused}

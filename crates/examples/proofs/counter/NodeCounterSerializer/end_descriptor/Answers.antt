@@ -2,10 +2,11 @@ use Rattle.std.proofs.Common.{◌≡◌, ℕ, ◌+◌, ◌∙◌, refl, ap, sym,
 use Rattle.amqp_data.specs.declared.error.Error.{Error}
 use Rattle.amqp_ser.specs.Tree.{Tree, Descriptor}
 use Rattle.amqp_ser.specs.Composites.{as_described, descriptor_of}
+use Rattle.amqp_ser.proofs.Meant.{descriptor_there}
 use Rattle.examples.specs.Nodes.{CountsFrom}
-use Rattle.examples.specs.PendingMarker.{meant, only_as}
+use Rattle.amqp_ser.specs.Meant.{as_descriptor, meant}
 use Rattle.examples.specs.declared.counter.NodeCounter.{NodeCounter}
-use Rattle.examples.specs.declared.pending_marker.PendingMarker.TheVariants as pending
+use Rattle.amqp_ser.specs.declared.pending.Pending.TheVariants as pending
 use Rattle.examples.proofs.counter.NodeCounterSerializer.end_descriptor.Goals as goal
 
 -- a described value has one node more than its value
@@ -16,18 +17,15 @@ described_from descriptors d (Some t) (Ok n) h = omega arith
 described_from descriptors d (Some t) (Err e) h = (h.0, let k = h.1 in omega arith)
 
 -- a tree that has been counted at the position of a descriptor is a descriptor
-some_of : (o : Option Descriptor) (t : Tree) (n : ℕ) → CountsFrom 0 (only_as o t) (Ok n) → (d : Descriptor) × (o ≡ Some d)
-some_of None t n h = absurd h
-some_of (Some d) t n h = (d, refl)
-
-descriptor_there : (p : Option Tree) (n : ℕ) → CountsFrom 0 (meant pending.Descriptor p) (Ok n) → (d : Descriptor) × (descriptor_of p ≡ Some d)
-descriptor_there None n h = absurd h
-descriptor_there (Some t) n h = some_of (descriptor_of (Some t)) t n h
+counted : (o : Option Tree) (n : ℕ) → CountsFrom 0 o (Ok n) → (t : Tree) × (o ≡ Some t)
+counted None n h = absurd h
+counted (Some t) n h = (t, refl)
 
 pub returns-clause-step : goal.returns-clause-step
 returns-clause-step c = λ start before p h given.
     let counts = subst (λ (a : NodeCounter). CountsFrom a.descriptors (meant a.pending p) c.args.part) h.1 given.0 in
-    let there = descriptor_there p c.in_ok-part.field-0 (subst (CountsFrom 0 (meant pending.Descriptor p)) c.in_ok-part.was counts) in
+    let valid = counted (as_descriptor p) c.in_ok-part.field-0 (subst (CountsFrom 0 (meant pending.Descriptor p)) c.in_ok-part.was counts) in
+    let there = descriptor_there p valid.0 valid.1 in
     let inner = c.with_descriptor-compound.result in (
       record { descriptors = start.descriptors + 1; pending = inner },
       (

@@ -1,7 +1,7 @@
 use Rattle.std.proofs.Common.{◌≡◌, Err, refl, rules, subst}
 use Rattle.amqp_data.specs.declared.error.Error.TheVariants.{TooLong}
 use Rattle.examples.specs.Nodes.{CountsFrom}
-use Rattle.examples.specs.PendingMarker.{meant}
+use Rattle.amqp_ser.specs.Meant.{meant}
 use Rattle.examples.specs.declared.counter.NodeCounter.{NodeCounter}
 use Rattle.examples.proofs.Counts.{taken, refused, too_many}
 use Rattle.examples.proofs.counter.NodeCounterSerializer.end_part.Goals as goal
