@@ -1,13 +1,12 @@
 -- The trees of fields of which absent ones are left out.
-use Rattle.std.proofs.Common.{◌≡◌, ℕ, Bool, true, false, true≢false, List, [], ◌∷◌, Option, Some, None, is_some, refl, sym, ap, subst, ◌∙◌}
+use Rattle.std.proofs.Common.{◌≡◌, ℕ, Bool, true, false, true≢false, List, [], ◌∷◌, Some, None, refl, sym, ap, subst, ◌∙◌}
 use Rattle.std.proofs.lemmas.Cmp.{nat_list_eq_equiv}
 use Rattle.std.specs.Prelude.{◌||◌, ◌&&◌, not, if◌then◌else◌, bytes_eq}
 use Rattle.amqp_ser.specs.Tree.{Tree, scalar, string, list, map, trees_of}
 use Rattle.amqp_value.specs.TreeOf.{pairs_of}
 use Rattle.amqp_de.proofs.Lists.{same_trees, same_pairs}
 use Rattle.amqp_de.specs.Fields.{value_at, without}
-use Rattle.amqp_de.specs.Present.{optional, any_there, all_images, up_to_last, present_fields, has_name, distinct_names, EndsEarly}
-use Rattle.amqp_de.specs.Reads.{image_option, SameOption}
+use Rattle.amqp_de.specs.Present.{any_there, all_images, up_to_last, present_fields, has_name, distinct_names, EndsEarly}
 
 -- The images of all fields are a list that `EndsEarly` permits.
 all_there : (fs : List (Bool × Tree)) → EndsEarly fs (all_images fs)
@@ -85,34 +84,26 @@ module _ (n : List ℕ) where
   all_left (m ∷ ns) (f ∷ fs) e = let both = or_false (bytes_eq m n) (has_name n ns) e in
       all_left_by m f.0 f.1 (present_fields ns fs) both.0 (all_left ns fs both.1)
 
-  module _ {T : Type 0} (image : T → Tree) where
-    value_by : (o : Option T) (ns : List (List ℕ)) (fs : List (Bool × Tree)) (es : List (Tree × Tree)) (t : Tree) → has_name n ns ≡ false →
-        es ≡ present_fields (n ∷ ns) (optional image o ∷ fs) → value_at n es ≡ Some t → t ≡ image_option image o
-    value_by None ns fs es t d e v =
-        let same : None ≡ Some t = sym (no_value ns fs d) ∙ ap (value_at n) (sym e) ∙ v in absurd cc
-    value_by (Some x) ns fs es t d e v =
-        let same : Some t ≡ Some (image x) = sym v ∙ ap (value_at n) e ∙ first_value n (image x) (present_fields ns fs) in cc
+  value_by : (b : Bool) (u : Tree) (ns : List (List ℕ)) (fs : List (Bool × Tree)) (es : List (Tree × Tree)) (t : Tree) → has_name n ns ≡ false →
+      es ≡ present_fields (n ∷ ns) ((b, u) ∷ fs) → value_at n es ≡ Some t → t ≡ u
+  value_by false u ns fs es t d e v = let same : None ≡ Some t = sym (no_value ns fs d) ∙ ap (value_at n) (sym e) ∙ v in absurd cc
+  value_by true u ns fs es t d e v = let same : Some t ≡ Some u = sym v ∙ ap (value_at n) e ∙ first_value n u (present_fields ns fs) in cc
 
   rest_by : (b : Bool) (t : Tree) (ns : List (List ℕ)) (fs : List (Bool × Tree)) → has_name n ns ≡ false →
       without n (if b then (scalar (string n), t) ∷ present_fields ns fs else present_fields ns fs) ≡ present_fields ns fs
   rest_by true t ns fs d = first_without n t (present_fields ns fs)
   rest_by false t ns fs d = all_left ns fs d
 
-none_by : {T : Type 0} (S : T → T → Type 0) (o : Option T) (n : List ℕ) (t : Tree) (rs es : List (Tree × Tree)) →
-    es ≡ (if is_some o then (scalar (string n), t) ∷ rs else rs) → value_at n es ≡ None → SameOption S None o
-none_by S None n t rs es e v = tt
-none_by S (Some x) n t rs es e v = let same : Some t ≡ None = sym (first_value n t rs) ∙ ap (value_at n) (sym e) ∙ v in absurd cc
+-- If the name of a field is present, its value is the image of the field.
+pub present_value : (n : List ℕ) (b : Bool) (u : Tree) (ns : List (List ℕ)) (fs : List (Bool × Tree)) (es : List (Tree × Tree)) (t : Tree) →
+    distinct_names (n ∷ ns) ≡ true → es ≡ present_fields (n ∷ ns) ((b, u) ∷ fs) → value_at n es ≡ Some t → t ≡ u
+present_value n b u ns fs es t d e v = value_by n b u ns fs es t (not_and (has_name n ns) (distinct_names ns) d).0 e v
 
--- If the name of an optional field is present, its value is the image of the field.
-pub present_value : {T : Type 0} (n : List ℕ) (image : T → Tree) (o : Option T) (ns : List (List ℕ)) (fs : List (Bool × Tree))
-    (es : List (Tree × Tree)) (t : Tree) → distinct_names (n ∷ ns) ≡ true → es ≡ present_fields (n ∷ ns) (optional image o ∷ fs) →
-    value_at n es ≡ Some t → t ≡ image_option image o
-present_value n image o ns fs es t d e v = value_by n image o ns fs es t (not_and (has_name n ns) (distinct_names ns) d).0 e v
-
--- If the name of an optional field is not present, the field is absent.
-pub absent_same : {T : Type 0} (S : T → T → Type 0) (o : Option T) (n : List ℕ) (t : Tree) (rs es : List (Tree × Tree)) →
-    es ≡ (if is_some o then (scalar (string n), t) ∷ rs else rs) → value_at n es ≡ None → SameOption S None o
-absent_same S o n t rs es e v = none_by S o n t rs es e v
+-- If the name of a field is not present, the field is not.
+pub not_present : (n : List ℕ) (b : Bool) (u : Tree) (ns : List (List ℕ)) (fs : List (Bool × Tree)) (es : List (Tree × Tree)) →
+    es ≡ present_fields (n ∷ ns) ((b, u) ∷ fs) → value_at n es ≡ None → b ≡ false
+not_present n false u ns fs es e v = refl
+not_present n true u ns fs es e v = let same : Some u ≡ None = sym (first_value n u (present_fields ns fs)) ∙ ap (value_at n) (sym e) ∙ v in absurd cc
 
 -- The entries without the first field are the entries of the fields after it.
 pub rest_there : (n : List ℕ) (b : Bool) (t : Tree) (ns : List (List ℕ)) (fs : List (Bool × Tree)) (es rest : List (Tree × Tree)) →

@@ -35,22 +35,24 @@ abbrev pub There : {T : Type 0} → (Tree → T → Type 0) → Option Tree → 
 There R None x = ⊥
 There R (Some t) x = R t x
 
--- An optional value is read if it is present, and is `None` if it is absent.
-abbrev pub Perhaps : {T : Type 0} → (Tree → T → Type 0) → Option Tree → Option T → Type 0
-Perhaps R None x = x ≡ None
-Perhaps R (Some t) x = ReadsOption R t x
+-- A field is read from its value, and `Absent` holds for what is read if there is none.
+abbrev pub Perhaps : {T : Type 0} → (T → Type 0) → (Tree → T → Type 0) → Option Tree → T → Type 0
+Perhaps Absent R None x = Absent x
+Perhaps Absent R (Some t) x = R t x
+
+-- A field, and the fields after it.
+unfoldable pub ReadsField : {T : Type 0} → (T → Type 0) → List ℕ → (Tree → T → Type 0) → T → (FieldSource → Type 0) → FieldSource → Type 0
+ReadsField Absent n R x K (by_position []) = Absent x × K (by_position [])
+ReadsField Absent n R x K (by_position (t ∷ ts)) = R t x × K (by_position ts)
+ReadsField Absent n R x K (by_name es) = Perhaps Absent R (value_at n es) x × K (by_name (without n es))
 
 -- A required field, and the fields after it.
-unfoldable pub ReadsRequired : {T : Type 0} → List ℕ → (Tree → T → Type 0) → T → (FieldSource → Type 0) → FieldSource → Type 0
-ReadsRequired n R x K (by_position []) = ⊥
-ReadsRequired n R x K (by_position (t ∷ ts)) = R t x × K (by_position ts)
-ReadsRequired n R x K (by_name es) = There R (value_at n es) x × K (by_name (without n es))
+abbrev pub ReadsRequired : {T : Type 0} → List ℕ → (Tree → T → Type 0) → T → (FieldSource → Type 0) → FieldSource → Type 0
+ReadsRequired n R x K = ReadsField (λ _. ⊥) n R x K
 
 -- An optional field, which may be absent or null, and the fields after it.
-unfoldable pub ReadsOptional : {T : Type 0} → List ℕ → (Tree → T → Type 0) → Option T → (FieldSource → Type 0) → FieldSource → Type 0
-ReadsOptional n R x K (by_position []) = (x ≡ None) × K (by_position [])
-ReadsOptional n R x K (by_position (t ∷ ts)) = ReadsOption R t x × K (by_position ts)
-ReadsOptional n R x K (by_name es) = Perhaps R (value_at n es) x × K (by_name (without n es))
+abbrev pub ReadsOptional : {T : Type 0} → List ℕ → (Tree → T → Type 0) → Option T → (FieldSource → Type 0) → FieldSource → Type 0
+ReadsOptional n R x K = ReadsField (λ y. y ≡ None) n (ReadsOption R) x K
 
 -- No more fields. Further elements or entries are ignored.
 unfoldable pub NoMoreFields : FieldSource → Type 0

@@ -6,10 +6,35 @@ ghost use Rattle.amqp_de.specs.Fields.{OnDescribed};
 ghost use Rattle.amqp_de.specs.Laws.{first_name, other_names};
 
 use crate::fault::Fault;
-use crate::seed::Describes;
+use crate::seed::{After, Seed};
 use crate::shape::Shape;
 use crate::source::Source;
 use std::alloc::Global;
+
+// A shape as the seed of its parts.
+#[derive(Drop)]
+struct Parts<X>(X);
+
+impl<X: Shape> Seed for Parts<X> {
+    type Value = X::Value;
+
+    ghost reads = { λ s. (X.laws (X.names s.0)).reads };
+
+    ghost image = { λ s. (X.laws (X.names s.0)).image };
+
+    ghost short = { λ s. (X.laws (X.names s.0)).image };
+
+    ghost restorable = { λ s. (X.laws (X.names s.0)).restorable };
+
+    ghost same = { λ s. (X.laws (X.names s.0)).same };
+
+    ghost fits = { λ s. X.fits (X.names s.0) };
+
+    #[inline(always)]
+    fn read<S: Source>(self, alloc: Global, source: S) -> Result<(X::Value, S::Rest), Fault> {
+        self.0.read_parts(alloc, source)
+    }
+}
 
 /// A shape after the code `C`, for a type that has no name.
 ///
@@ -35,19 +60,7 @@ impl<X: Shape, const C: u64> Shape for AfterCode<X, C> {
 
     #[inline(always)]
     fn read_parts<S: Source>(self, alloc: Global, source: S) -> Result<(X::Value, S::Rest), Fault> {
-        let (found, inner) = match source.described(alloc) {
-            Ok(opened) => opened,
-            Err(fault) => return Err(fault),
-        };
-        let wanted = C;
-        if !wanted.is(&found) {
-            return Err(Fault::other_descriptor());
-        }
-        drop(found);
-        match self.0.read_parts(alloc, inner) {
-            Ok(read) => Ok(read),
-            Err(fault) => Err(fault),
-        }
+        After(C, Parts(self.0)).read(alloc, source)
     }
 }
 
@@ -76,18 +89,7 @@ impl<X: Shape> Shape for AfterName<X> {
 
     #[inline(always)]
     fn read_parts<S: Source>(self, alloc: Global, source: S) -> Result<(X::Value, S::Rest), Fault> {
-        let (found, inner) = match source.described(alloc) {
-            Ok(opened) => opened,
-            Err(fault) => return Err(fault),
-        };
-        let wanted = self.0;
-        if !wanted.is(&found) {
-            return Err(Fault::other_descriptor());
-        }
-        drop(found);
-        match self.1.read_parts(alloc, inner) {
-            Ok(read) => Ok(read),
-            Err(fault) => Err(fault),
-        }
+        let AfterName(name, shape) = self;
+        After(name, Parts(shape)).read(alloc, source)
     }
 }

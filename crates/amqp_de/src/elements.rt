@@ -6,7 +6,9 @@ ghost use Rattle.amqp_de.specs.Present.{required};
 
 use crate::deserialize::Deserialize;
 use crate::fault::Fault;
+use crate::field::{read_elements, read_entries};
 use crate::fields::{FieldSeeds, FieldValues};
+use crate::seed::Of;
 use crate::source::Source;
 use std::alloc::Global;
 use std::marker::PhantomData;
@@ -40,40 +42,15 @@ impl<V: Deserialize, R: FieldSeeds> FieldSeeds for Element<V, R> {
         alloc: Global,
         elements: S::Elements,
     ) -> Result<FieldValues<V, R::Values>, Fault> {
-        let mut elements = elements;
-        let element = match S::next(&mut elements) {
-            Some(element) => element,
-            None => return Err(S::missing("", S::taken(&elements))),
-        };
-        let (value, rest) = match V::read(alloc, element) {
-            Ok(read) => read,
-            Err(fault) => return Err(S::placed(fault, "", S::taken(&elements))),
-        };
-        S::resume(&mut elements, rest);
-        match self.rest.read_elements::<S>(alloc, elements) {
-            Ok(rest) => Ok(FieldValues { value, rest }),
-            Err(fault) => Err(fault),
-        }
+        read_elements::<Of<V>, R, S>(alloc, "", &self.rest, elements)
     }
 
+    #[inline(always)]
     fn read_entries<S: Source>(
         &self,
         alloc: Global,
         entries: S::Entries,
     ) -> Result<FieldValues<V, R::Values>, Fault> {
-        let mut entries = entries;
-        let entry = match S::take_named(&mut entries, "") {
-            Some(entry) => entry,
-            None => return Err(S::missing("", None)),
-        };
-        let (value, rest) = match V::read(alloc, entry) {
-            Ok(read) => read,
-            Err(fault) => return Err(fault),
-        };
-        S::resume_entries(&mut entries, rest);
-        match self.rest.read_entries::<S>(alloc, entries) {
-            Ok(rest) => Ok(FieldValues { value, rest }),
-            Err(fault) => Err(fault),
-        }
+        read_entries::<Of<V>, R, S>(alloc, "", &self.rest, entries)
     }
 }

@@ -11,6 +11,8 @@ ghost use Rattle.amqp_de.specs.Steps.{Taken, TakenNamed};
 
 use crate::deserialize::Deserialize;
 use crate::fault::Fault;
+use crate::field::{read_elements, read_entries};
+use crate::seed::Of;
 use crate::source::Source;
 use std::alloc::Global;
 use std::marker::PhantomData;
@@ -133,20 +135,7 @@ impl<V: Deserialize, R: FieldSeeds> FieldSeeds for Required<V, R> {
         alloc: Global,
         elements: S::Elements,
     ) -> Result<FieldValues<V, R::Values>, Fault> {
-        let mut elements = elements;
-        let element = match S::next(&mut elements) {
-            Some(element) => element,
-            None => return Err(S::missing(self.name, S::taken(&elements))),
-        };
-        let (value, rest) = match V::read(alloc, element) {
-            Ok(read) => read,
-            Err(fault) => return Err(S::placed(fault, self.name, S::taken(&elements))),
-        };
-        S::resume(&mut elements, rest);
-        match self.rest.read_elements::<S>(alloc, elements) {
-            Ok(rest) => Ok(FieldValues { value, rest }),
-            Err(fault) => Err(fault),
-        }
+        read_elements::<Of<V>, R, S>(alloc, self.name, &self.rest, elements)
     }
 
     #[inline(always)]
@@ -155,19 +144,6 @@ impl<V: Deserialize, R: FieldSeeds> FieldSeeds for Required<V, R> {
         alloc: Global,
         entries: S::Entries,
     ) -> Result<FieldValues<V, R::Values>, Fault> {
-        let mut entries = entries;
-        let entry = match S::take_named(&mut entries, self.name) {
-            Some(entry) => entry,
-            None => return Err(S::missing(self.name, None)),
-        };
-        let (value, rest) = match V::read(alloc, entry) {
-            Ok(read) => read,
-            Err(fault) => return Err(S::placed(fault, self.name, None)),
-        };
-        S::resume_entries(&mut entries, rest);
-        match self.rest.read_entries::<S>(alloc, entries) {
-            Ok(rest) => Ok(FieldValues { value, rest }),
-            Err(fault) => Err(fault),
-        }
+        read_entries::<Of<V>, R, S>(alloc, self.name, &self.rest, entries)
     }
 }

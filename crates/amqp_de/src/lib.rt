@@ -14,6 +14,7 @@ mod encoded;
 mod encoded_parts;
 mod errors;
 mod fault;
+mod field;
 mod fields;
 mod form;
 mod held;

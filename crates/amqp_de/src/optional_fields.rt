@@ -1,16 +1,13 @@
 //! Fields of a struct that may be absent.
 
-ghost use Rattle.std.specs.Prelude.{◌≡◌, List, ◌∷◌, Bool, true, ◌&&◌, None, IfOk, IfErr};
-ghost use Rattle.amqp_ser.specs.Tree.{Tree};
-ghost use Rattle.amqp_de.specs.Fields.{without, ReadsOptional};
+ghost use Rattle.std.specs.Prelude.{◌≡◌, ◌∷◌, None, is_some};
+ghost use Rattle.amqp_de.specs.Fields.{ReadsOptional};
 ghost use Rattle.amqp_de.specs.Present.{optional};
 ghost use Rattle.amqp_de.specs.Reads.{ReadsOption, image_option, RestorableOption, SameOption};
-ghost use Rattle.amqp_de.specs.Results.{IsMemory, Reading};
-ghost use Rattle.amqp_de.specs.Steps.{TakesField, Follows, RefusesFirst};
-ghost use Rattle.amqp_de.specs.Steps.{TakesNamed, RefusesNamed};
 
 use crate::deserialize::Deserialize;
 use crate::fault::Fault;
+use crate::field::{Field, read_elements, read_entries};
 use crate::fields::{FieldSeeds, FieldValues};
 use crate::source::Source;
 use std::alloc::Global;
@@ -27,84 +24,34 @@ pub struct Optional<V, R> {
     pub rest: R,
 }
 
-// Reads the next element, or nothing if there is none.
-#[inline(always)]
-fn next_value<V: Deserialize, S: Source>(
-    alloc: Global,
-    name: &'static str,
-    elements: &mut S::Elements,
-) -> Result<Option<V>, Fault>
-    ensures ok { IfOk result (λ x. (ts : List Tree) → S.holds elements.new ts →
-        TakesField (Reading (ReadsOption V.reads) (image_option V.image)
-        (RestorableOption V.image V.restorable) (SameOption V.same)) None
-        (S.holds elements.old) ts x) }
-    ensures whole { IfOk result (λ _. S.are_whole elements.old →
-        S.are_whole elements.new × Follows (S.items elements.old) (S.items elements.new)) }
-    ensures err { IfErr result (λ e. S.are_whole elements.old →
-        RefusesFirst (ReadsOption V.reads) (image_option V.image)
-        (RestorableOption V.image V.restorable) (IsMemory e) (S.items elements.old)) }
-{
-    let element = match S::next(&mut *elements) {
-        Some(element) => element,
-        None => return Ok(None),
-    };
-    if element.is_null() {
-        return match element.null() {
-            Ok(rest) => {
-                S::resume(elements, rest);
-                Ok(None)
-            }
-            Err(fault) => Err(fault),
-        };
-    }
-    match V::read(alloc, element) {
-        Ok((value, rest)) => {
-            S::resume(elements, rest);
-            Ok(Some(value))
-        }
-        Err(fault) => Err(S::placed(fault, name, S::taken(elements))),
-    }
-}
+impl<V: Deserialize> Field for Option<V> {
+    type Value = Option<V>;
 
-// Reads the value of the key with this name, or nothing if there is no such key.
-#[inline(always)]
-fn named_value<V: Deserialize, S: Source>(
-    alloc: Global,
-    name: &'static str,
-    entries: &mut S::Entries,
-) -> Result<Option<V>, Fault>
-    ensures ok { IfOk result (λ x. (ps : List (Tree × Tree)) → S.holds_pairs entries.new ps →
-        (qs : List (Tree × Tree)) × S.holds_pairs entries.old qs
-        × TakesNamed (Reading (ReadsOption V.reads) (image_option V.image)
-        (RestorableOption V.image V.restorable) (SameOption V.same)) None
-        S.only S.needs name.now qs ps x) }
-    ensures whole { IfOk result (λ x. S.pairs_whole entries.old → S.pairs_whole entries.new
-        × (S.pairs entries.new ≡ without name.now (S.pairs entries.old))) }
-    ensures err { IfErr result (λ e. S.pairs_whole entries.old →
-        RefusesNamed (ReadsOption V.reads) (image_option V.image)
-        (RestorableOption V.image V.restorable) (IsMemory e) name.now (S.pairs entries.old)) }
-    ensures needs { (a b : Bool) → S.needs (a && b) → S.needs a × S.needs b }
-    ensures enough { S.needs true }
-{
-    let entry = match S::take_named(&mut *entries, name) {
-        Some(entry) => entry,
-        None => return Ok(None),
-    };
-    if entry.is_null() {
-        return match entry.null() {
-            Ok(rest) => {
-                S::resume_entries(entries, rest);
-                Ok(None)
-            }
-            Err(fault) => Err(fault),
-        };
+    ghost reads = { ReadsOption V.reads };
+
+    ghost absent = { λ x. x ≡ None };
+
+    ghost present = { is_some };
+
+    ghost image = { image_option V.image };
+
+    ghost restorable = { RestorableOption V.image V.restorable };
+
+    ghost same = { SameOption V.same };
+
+    fn law() {}
+
+    #[inline(always)]
+    fn read<S: Source>(alloc: Global, source: S) -> Result<(Option<V>, S::Rest), Fault> {
+        <Option<V> as Deserialize>::read(alloc, source)
     }
-    match V::read(alloc, entry) {
-        Ok((value, rest)) => {
-            S::resume_entries(entries, rest);
-            Ok(Some(value))
-        }
-        Err(fault) => Err(S::placed(fault, name, None)),
+
+    #[inline(always)]
+    fn read_absent<S: Source>(
+        _name: &'static str,
+        _taken: Option<usize>,
+    ) -> Result<Option<V>, Fault> {
+        Ok(None)
     }
 }
 
@@ -128,15 +75,7 @@ impl<V: Deserialize, R: FieldSeeds> FieldSeeds for Optional<V, R> {
         alloc: Global,
         elements: S::Elements,
     ) -> Result<FieldValues<Option<V>, R::Values>, Fault> {
-        let mut elements = elements;
-        let value = match next_value::<V, S>(alloc, self.name, &mut elements) {
-            Ok(value) => value,
-            Err(fault) => return Err(fault),
-        };
-        match self.rest.read_elements::<S>(alloc, elements) {
-            Ok(rest) => Ok(FieldValues { value, rest }),
-            Err(fault) => Err(fault),
-        }
+        read_elements::<Option<V>, R, S>(alloc, self.name, &self.rest, elements)
     }
 
     #[inline(always)]
@@ -145,14 +84,6 @@ impl<V: Deserialize, R: FieldSeeds> FieldSeeds for Optional<V, R> {
         alloc: Global,
         entries: S::Entries,
     ) -> Result<FieldValues<Option<V>, R::Values>, Fault> {
-        let mut entries = entries;
-        let value = match named_value::<V, S>(alloc, self.name, &mut entries) {
-            Ok(value) => value,
-            Err(fault) => return Err(fault),
-        };
-        match self.rest.read_entries::<S>(alloc, entries) {
-            Ok(rest) => Ok(FieldValues { value, rest }),
-            Err(fault) => Err(fault),
-        }
+        read_entries::<Option<V>, R, S>(alloc, self.name, &self.rest, entries)
     }
 }

@@ -226,6 +226,7 @@ impl<K: Describes + Drop, X: Seed> Seed for After<K, X> {
         if !self.0.is(&found) {
             return Err(Fault::other_descriptor());
         }
+        drop(found);
         let After(_, seed) = self;
         match seed.read(alloc, inner) {
             Ok(read) => Ok(read),

@@ -3,7 +3,6 @@
 ghost use Rattle.std.specs.Prelude.{◌≡◌};
 ghost use Rattle.amqp_data.specs.Fixed.{dec32_bytes, dec64_bytes, dec128_bytes};
 ghost use Rattle.amqp_ser.specs.Tree.{scalar, decimal32, decimal64, decimal128};
-ghost use Rattle.amqp_de.specs.Reads.{Always};
 
 use crate::deserialize::Deserialize;
 use crate::fault::Fault;
@@ -24,10 +23,7 @@ impl Scalar for Dec32 {
 
     #[inline(always)]
     fn from_value(value: Value) -> Option<Dec32> {
-        match value {
-            Value::Decimal32(content) => Some(content),
-            _ => None,
-        }
+        of_kind!(value, Decimal32)
     }
 
     #[inline(always)]
@@ -40,8 +36,6 @@ impl Deserialize for Dec32 {
     ghost reads = { λ t x. t ≡ scalar (decimal32 (dec32_bytes x)) };
 
     ghost image = { λ x. scalar (decimal32 (dec32_bytes x)) };
-
-    ghost restorable = { Always };
 
     ghost same = { λ x y. dec32_bytes x ≡ dec32_bytes y };
 
@@ -66,10 +60,7 @@ impl Scalar for Dec64 {
 
     #[inline(always)]
     fn from_value(value: Value) -> Option<Dec64> {
-        match value {
-            Value::Decimal64(content) => Some(content),
-            _ => None,
-        }
+        of_kind!(value, Decimal64)
     }
 
     #[inline(always)]
@@ -82,8 +73,6 @@ impl Deserialize for Dec64 {
     ghost reads = { λ t x. t ≡ scalar (decimal64 (dec64_bytes x)) };
 
     ghost image = { λ x. scalar (decimal64 (dec64_bytes x)) };
-
-    ghost restorable = { Always };
 
     ghost same = { λ x y. dec64_bytes x ≡ dec64_bytes y };
 
@@ -108,10 +97,7 @@ impl Scalar for Dec128 {
 
     #[inline(always)]
     fn from_value(value: Value) -> Option<Dec128> {
-        match value {
-            Value::Decimal128(content) => Some(content),
-            _ => None,
-        }
+        of_kind!(value, Decimal128)
     }
 
     #[inline(always)]
@@ -124,8 +110,6 @@ impl Deserialize for Dec128 {
     ghost reads = { λ t x. t ≡ scalar (decimal128 (dec128_bytes x)) };
 
     ghost image = { λ x. scalar (decimal128 (dec128_bytes x)) };
-
-    ghost restorable = { Always };
 
     ghost same = { λ x y. dec128_bytes x ≡ dec128_bytes y };
 

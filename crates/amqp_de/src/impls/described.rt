@@ -50,8 +50,6 @@ impl Deserialize for Descriptor {
 
     ghost image = { λ d. descriptor_tree (descriptor_content d) };
 
-    ghost restorable = { Always };
-
     ghost same = { λ d e. descriptor_content d ≡ descriptor_content e };
 
     fn read<S: Source>(alloc: Global, source: S) -> Result<(Descriptor, S::Rest), Fault> {

@@ -4,7 +4,6 @@ ghost use Rattle.std.specs.Prelude.{◌≡◌};
 ghost use Rattle.std.specs.Int.{w64, from_be_bytes, cast_signed};
 ghost use Rattle.amqp_data.specs.Fixed.{milliseconds_of, uuid_bytes};
 ghost use Rattle.amqp_ser.specs.Tree.{scalar, char, timestamp, uuid};
-ghost use Rattle.amqp_de.specs.Reads.{Always};
 
 use crate::deserialize::Deserialize;
 use crate::fault::Fault;
@@ -26,10 +25,7 @@ impl Scalar for char {
 
     #[inline(always)]
     fn from_value(value: Value) -> Option<char> {
-        match value {
-            Value::Char(content) => Some(content),
-            _ => None,
-        }
+        of_kind!(value, Char)
     }
 
     #[inline(always)]
@@ -42,10 +38,6 @@ impl Deserialize for char {
     ghost reads = { λ t x. t ≡ scalar (char x) };
 
     ghost image = { λ x. scalar (char x) };
-
-    ghost restorable = { Always };
-
-    ghost same = { λ x y. x ≡ y };
 
     #[inline(always)]
     fn read<S: Source>(alloc: Global, source: S) -> Result<(char, S::Rest), Fault> {
@@ -72,10 +64,7 @@ impl Scalar for Timestamp {
 
     #[inline(always)]
     fn from_value(value: Value) -> Option<Timestamp> {
-        match value {
-            Value::Timestamp(content) => Some(content),
-            _ => None,
-        }
+        of_kind!(value, Timestamp)
     }
 
     #[inline(always)]
@@ -102,8 +91,6 @@ impl Deserialize for Timestamp {
     ghost reads = { λ t x. t ≡ scalar (timestamp (milliseconds_of x)) };
 
     ghost image = { λ x. scalar (timestamp (milliseconds_of x)) };
-
-    ghost restorable = { Always };
 
     ghost same = { λ x y. milliseconds_of x ≡ milliseconds_of y };
 
@@ -143,10 +130,7 @@ impl Scalar for Uuid {
 
     #[inline(always)]
     fn from_value(value: Value) -> Option<Uuid> {
-        match value {
-            Value::Uuid(content) => Some(content),
-            _ => None,
-        }
+        of_kind!(value, Uuid)
     }
 
     #[inline(always)]
@@ -159,8 +143,6 @@ impl Deserialize for Uuid {
     ghost reads = { λ t x. t ≡ scalar (uuid (uuid_bytes x)) };
 
     ghost image = { λ x. scalar (uuid (uuid_bytes x)) };
-
-    ghost restorable = { Always };
 
     ghost same = { λ x y. uuid_bytes x ≡ uuid_bytes y };
 

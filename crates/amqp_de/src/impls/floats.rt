@@ -4,7 +4,6 @@ ghost use Rattle.std.specs.Prelude.{◌≡◌};
 ghost use Rattle.std.specs.Int.{w32, w64, from_be_bytes};
 ghost use Rattle.amqp_data.specs.Fixed.{f32_bits, f64_bits};
 ghost use Rattle.amqp_ser.specs.Tree.{scalar, float, double};
-ghost use Rattle.amqp_de.specs.Reads.{Always};
 
 use crate::deserialize::Deserialize;
 use crate::fault::Fault;
@@ -26,10 +25,7 @@ impl Scalar for F32Bits {
 
     #[inline(always)]
     fn from_value(value: Value) -> Option<F32Bits> {
-        match value {
-            Value::Float(content) => Some(content),
-            _ => None,
-        }
+        of_kind!(value, Float)
     }
 
     #[inline(always)]
@@ -56,8 +52,6 @@ impl Deserialize for F32Bits {
     ghost reads = { λ t x. t ≡ scalar (float (f32_bits x)) };
 
     ghost image = { λ x. scalar (float (f32_bits x)) };
-
-    ghost restorable = { Always };
 
     ghost same = { λ x y. f32_bits x ≡ f32_bits y };
 
@@ -93,10 +87,7 @@ impl Scalar for F64Bits {
 
     #[inline(always)]
     fn from_value(value: Value) -> Option<F64Bits> {
-        match value {
-            Value::Double(content) => Some(content),
-            _ => None,
-        }
+        of_kind!(value, Double)
     }
 
     #[inline(always)]
@@ -123,8 +114,6 @@ impl Deserialize for F64Bits {
     ghost reads = { λ t x. t ≡ scalar (double (f64_bits x)) };
 
     ghost image = { λ x. scalar (double (f64_bits x)) };
-
-    ghost restorable = { Always };
 
     ghost same = { λ x y. f64_bits x ≡ f64_bits y };
 

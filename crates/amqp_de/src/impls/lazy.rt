@@ -25,8 +25,6 @@ impl Deserialize for LazyValue {
 
     ghost restorable = { λ _. ⊥ };
 
-    ghost same = { λ x y. x ≡ y };
-
     fn read<S: Source>(alloc: Global, source: S) -> Result<(LazyValue, S::Rest), Fault> {
         let (value, rest) = match source.untyped(alloc) {
             Ok(read) => read,

@@ -23,12 +23,8 @@ impl<T: Deserialize> Deserialize for TransparentVec<T> {
 
     #[inline(always)]
     fn read<S: Source>(alloc: Global, source: S) -> Result<(TransparentVec<T>, S::Rest), Fault> {
-        let (elements, rest) = match source.list() {
-            Ok(opened) => opened,
-            Err(fault) => return Err(fault),
-        };
-        match T::read_all::<S>(alloc, elements) {
-            Ok(values) => Ok((TransparentVec::new(values), rest)),
+        match Vec::<T>::read(alloc, source) {
+            Ok((values, rest)) => Ok((TransparentVec::new(values), rest)),
             Err(fault) => Err(fault),
         }
     }

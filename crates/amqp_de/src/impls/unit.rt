@@ -2,7 +2,6 @@
 
 ghost use Rattle.std.specs.Prelude.{◌≡◌};
 ghost use Rattle.amqp_ser.specs.Tree.{scalar, null};
-ghost use Rattle.amqp_de.specs.Reads.{Always};
 
 use crate::deserialize::Deserialize;
 use crate::fault::Fault;
@@ -13,10 +12,6 @@ impl Deserialize for () {
     ghost reads = { λ t _. t ≡ scalar null };
 
     ghost image = { λ _. scalar null };
-
-    ghost restorable = { Always };
-
-    ghost same = { λ x y. x ≡ y };
 
     #[inline(always)]
     fn read<S: Source>(_alloc: Global, source: S) -> Result<((), S::Rest), Fault> {

@@ -39,16 +39,10 @@ returns-clause-law g c x some e w =
     c.in-Err-read_after.ensures.law x some d u are
 
 pub returns-in-Err-clause-short : goal.returns-in-Err-clause-short
-returns-in-Err-clause-short g c x some e w = elim (c.in-Err.ensures.err w) [ inl m ↦ m | inr n ↦ absurd (n _ _ e) ]
+returns-in-Err-clause-short g c x some e w = returns-in-Err-clause-law g c x some e w
 
 pub returns-in-Ok-read_after-clause-short : goal.returns-in-Ok-read_after-clause-short
-returns-in-Ok-read_after-clause-short g c x some e =
-    let (is, left) = c.in-Ok.ensures.ok c.in-Ok-read_after.read.1 c.in-Ok-read_after.ensures.read.1 in
-    let (d, u) = inner_same _ _ _ _ _ is e in
-    c.in-Ok-read_after.ensures.law x some d u
+returns-in-Ok-read_after-clause-short g c x some e = returns-in-Ok-read_after-clause-law g c x some e
 
 pub returns-clause-short : goal.returns-clause-short
-returns-clause-short g c x some e w =
-    let (are, is) = c.in-Ok.ensures.whole w in
-    let (d, u) = inner_same _ _ _ _ _ is e in
-    c.in-Err-read_after.ensures.law x some d u are
+returns-clause-short g c x some e w = returns-clause-law g c x some e w

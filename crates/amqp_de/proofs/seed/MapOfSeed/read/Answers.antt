@@ -25,10 +25,7 @@ returns-in-Ok-read_entries-clause-law g c x some e =
 
 pub returns-in-Ok-read_entries-clause-short : goal.returns-in-Ok-read_entries-clause-short
 unfolding short_map
-returns-in-Ok-read_entries-clause-short g c x some e =
-    let (ps, h, among, reads, law) = c.in-Ok-read_entries.ensures.ok in
-    let (is, left) = c.in-Ok.ensures.ok ps h (c.map.ensures.named _ ps among c.requires) in
-    law x some c.requires (one_map _ ps (present_fields (g.F.FieldSeeds.names c.args.self.0) (g.F.FieldSeeds.images x)) is e)
+returns-in-Ok-read_entries-clause-short g c x some e = returns-in-Ok-read_entries-clause-law g c x some e
 
 pub returns-clause-read : goal.returns-clause-read
 returns-clause-read g c w =
@@ -46,9 +43,7 @@ returns-clause-law g c x some e w =
 
 pub returns-clause-short : goal.returns-clause-short
 unfolding short_map
-returns-clause-short g c x some e w =
-    let (are, is) = c.in-Ok.ensures.whole w in
-    c.in-Err-read_entries.ensures.law x some c.requires (one_map _ _ (present_fields (g.F.FieldSeeds.names c.args.self.0) (g.F.FieldSeeds.images x)) is e) are
+returns-clause-short g c x some e w = returns-clause-law g c x some e w
 
 pub returns-in-Err-clause-law : goal.returns-in-Err-clause-law
 unfolding short_map
@@ -56,4 +51,4 @@ returns-in-Err-clause-law g c x some e w = elim (c.in-Err.ensures.err w) [ inl m
 
 pub returns-in-Err-clause-short : goal.returns-in-Err-clause-short
 unfolding short_map
-returns-in-Err-clause-short g c x some e w = elim (c.in-Err.ensures.err w) [ inl m ↦ m | inr n ↦ absurd (n _ e) ]
+returns-in-Err-clause-short g c x some e w = returns-in-Err-clause-law g c x some e w

@@ -1,0 +1,210 @@
+//! One field and the fields after it: the body that all kinds of fields share.
+
+ghost use Rattle.std.specs.Prelude.{◌≡◌, ◌⊎◌, List, ◌∷◌, Bool, false, true, ◌&&◌, IfOk, IfErr};
+ghost use Rattle.amqp_ser.specs.Tree.{Tree};
+ghost use Rattle.amqp_de.specs.Fields.{by_position, by_name, without};
+ghost use Rattle.amqp_de.specs.Parts.{ReadsFields, images_of_fields, RestorableFields, SameFields};
+ghost use Rattle.amqp_de.specs.Present.{EndsEarly, present_fields, distinct_names};
+ghost use Rattle.amqp_de.specs.Results.{IsMemory, Takes, Brings, Reading};
+ghost use Rattle.amqp_de.specs.Steps.{Taken, TakenNamed, TakesField, TakesNamed, Follows};
+ghost use Rattle.amqp_de.specs.Steps.{RefusesValue, RefusesFirst, RefusesNamed, IsRequired};
+ghost use Rattle.amqp_de.specs.declared.fields.FieldValues.{FieldValues};
+
+use crate::deserialize::Deserialize;
+use crate::fault::Fault;
+use crate::fields::{FieldSeeds, FieldValues};
+use crate::seed::Of;
+use crate::source::Source;
+use std::alloc::Global;
+
+/// How a field is read if it is present, and if it is absent.
+pub trait Field {
+    /// The type of the value.
+    type Value: Drop;
+
+    /// Which trees are read as which values.
+    ghost reads: { Tree → Self.Value → Type 0 };
+
+    /// Which value an absent field is read as.
+    ghost absent: { Self.Value → Type 0 };
+
+    /// Whether a value is present in an image of the fields.
+    ghost present: { Self.Value → Bool };
+
+    /// The tree of the untyped value that represents a value.
+    ghost image: { Self.Value → Tree };
+
+    /// Whether a value round-trips through its image.
+    ghost restorable: { Self.Value → Type 0 };
+
+    /// Whether two values have the same contents.
+    ghost same: { Self.Value → Self.Value → Type 0 };
+
+    /// States that a value that is not present has the contents of that of an absent field.
+    fn law()
+        ensures { (x y : Self.Value) → present y ≡ false → absent x → same x y };
+
+    /// Reads a value, and returns what is left.
+    fn read<S: Source>(alloc: Global, source: S) -> Result<(Self::Value, S::Rest), Fault>
+        ensures read { Takes reads (S.value source) (S.is_whole source) (S.left source) result }
+        ensures law { Brings image restorable same (S.value source) (S.is_whole source) result };
+
+    /// Returns the value of an absent field, or the error for a missing one.
+    fn read_absent<S: Source>(
+        name: &'static str,
+        taken: Option<usize>,
+    ) -> Result<Self::Value, Fault>
+        ensures ok { IfOk result (λ x. absent x) }
+        ensures err { IfErr result (λ _. IsRequired absent present) };
+}
+
+/// A required field.
+impl<V: Deserialize> Field for Of<V> {
+    type Value = V;
+
+    ghost reads = { V.reads };
+
+    ghost absent = { λ _. ⊥ };
+
+    ghost present = { λ _. true };
+
+    ghost image = { V.image };
+
+    ghost restorable = { V.restorable };
+
+    ghost same = { V.same };
+
+    fn law() {}
+
+    #[inline(always)]
+    fn read<S: Source>(alloc: Global, source: S) -> Result<(V, S::Rest), Fault> {
+        V::read(alloc, source)
+    }
+
+    #[inline(always)]
+    fn read_absent<S: Source>(name: &'static str, taken: Option<usize>) -> Result<V, Fault> {
+        Err(S::missing(name, taken))
+    }
+}
+
+// Reads the next element, or what an absent field is read as if there is none.
+#[inline(always)]
+fn next_value<F: Field, S: Source>(
+    alloc: Global,
+    name: &'static str,
+    elements: &mut S::Elements,
+) -> Result<F::Value, Fault>
+    ensures ok { IfOk result (λ x. (ts : List Tree) → S.holds elements.new ts →
+        TakesField (Reading F.reads F.image F.restorable F.same) F.absent
+        (S.holds elements.old) ts x) }
+    ensures whole { IfOk result (λ _. S.are_whole elements.old →
+        S.are_whole elements.new × Follows (S.items elements.old) (S.items elements.new)) }
+    ensures err { IfErr result (λ e. S.are_whole elements.old →
+        RefusesFirst (RefusesValue F.reads F.image F.restorable (IsMemory e))
+        (IsRequired F.absent F.present) (S.items elements.old)) }
+{
+    let element = match S::next(&mut *elements) {
+        Some(element) => element,
+        None => return F::read_absent::<S>(name, S::taken(elements)),
+    };
+    let (value, rest) = match F::read(alloc, element) {
+        Ok(read) => read,
+        Err(fault) => return Err(S::placed(fault, name, S::taken(elements))),
+    };
+    S::resume(elements, rest);
+    Ok(value)
+}
+
+// Reads the value of the key with this name, or what an absent field is read as if there is none.
+#[inline(always)]
+fn named_value<F: Field, S: Source>(
+    alloc: Global,
+    name: &'static str,
+    entries: &mut S::Entries,
+) -> Result<F::Value, Fault>
+    ensures ok { IfOk result (λ x. (ps : List (Tree × Tree)) → S.holds_pairs entries.new ps →
+        (qs : List (Tree × Tree)) × S.holds_pairs entries.old qs
+        × TakesNamed (Reading F.reads F.image F.restorable F.same) F.absent
+        S.only S.needs name.now qs ps x) }
+    ensures whole { IfOk result (λ x. S.pairs_whole entries.old → S.pairs_whole entries.new
+        × (S.pairs entries.new ≡ without name.now (S.pairs entries.old))) }
+    ensures err { IfErr result (λ e. S.pairs_whole entries.old →
+        RefusesNamed (RefusesValue F.reads F.image F.restorable (IsMemory e))
+        (IsRequired F.absent F.present) name.now (S.pairs entries.old)) }
+    ensures needs { (a b : Bool) → S.needs (a && b) → S.needs a × S.needs b }
+    ensures enough { S.needs true }
+{
+    let entry = match S::take_named(&mut *entries, name) {
+        Some(entry) => entry,
+        None => return F::read_absent::<S>(name, None),
+    };
+    let (value, rest) = match F::read(alloc, entry) {
+        Ok(read) => read,
+        Err(fault) => return Err(S::placed(fault, name, None)),
+    };
+    S::resume_entries(entries, rest);
+    Ok(value)
+}
+
+/// Reads a field and the fields after it from elements, by position.
+#[inline(always)]
+pub(crate) fn read_elements<F: Field, R: FieldSeeds, S: Source>(
+    alloc: Global,
+    name: &'static str,
+    others: &R,
+    elements: S::Elements,
+) -> Result<FieldValues<F::Value, R::Values>, Fault>
+    ensures ok { IfOk result (Taken (ReadsFields F.absent name.now F.reads (R.reads others.now))
+        (images_of_fields F.present F.image R.images) (RestorableFields F.restorable R.restorable)
+        (SameFields F.same R.same) (S.holds elements)) }
+    ensures err { IfErr result (λ e. S.are_whole elements → IsMemory e
+        ⊎ ((x : FieldValues F.Value R.Values) →
+        ¬ ReadsFields F.absent name.now F.reads (R.reads others.now) x (by_position (S.items elements)))) }
+    ensures law { (x : FieldValues F.Value R.Values) → RestorableFields F.restorable R.restorable x →
+        EndsEarly (images_of_fields F.present F.image R.images x) (S.items elements) →
+        IfErr result (λ e. S.are_whole elements → IsMemory e) }
+{
+    F::law();
+    let mut elements = elements;
+    let value = match next_value::<F, S>(alloc, name, &mut elements) {
+        Ok(value) => value,
+        Err(fault) => return Err(fault),
+    };
+    match others.read_elements::<S>(alloc, elements) {
+        Ok(rest) => Ok(FieldValues { value, rest }),
+        Err(fault) => Err(fault),
+    }
+}
+
+/// Reads a field and the fields after it from the entries of a map, by name.
+#[inline(always)]
+pub(crate) fn read_entries<F: Field, R: FieldSeeds, S: Source>(
+    alloc: Global,
+    name: &'static str,
+    others: &R,
+    entries: S::Entries,
+) -> Result<FieldValues<F::Value, R::Values>, Fault>
+    ensures ok { IfOk result (TakenNamed
+        (ReadsFields F.absent name.now F.reads (R.reads others.now)) (name.now ∷ R.names others.now)
+        (images_of_fields F.present F.image R.images) (RestorableFields F.restorable R.restorable)
+        (SameFields F.same R.same) S.needs S.only (S.holds_pairs entries)) }
+    ensures err { IfErr result (λ e. S.pairs_whole entries → IsMemory e
+        ⊎ ((x : FieldValues F.Value R.Values) →
+        ¬ ReadsFields F.absent name.now F.reads (R.reads others.now) x (by_name (S.pairs entries)))) }
+    ensures law { (x : FieldValues F.Value R.Values) → RestorableFields F.restorable R.restorable x →
+        distinct_names (name.now ∷ R.names others.now) ≡ true →
+        S.pairs entries ≡ present_fields (name.now ∷ R.names others.now)
+        (images_of_fields F.present F.image R.images x) →
+        IfErr result (λ e. S.pairs_whole entries → IsMemory e) }
+{
+    F::law();
+    let mut entries = entries;
+    let value = match named_value::<F, S>(alloc, name, &mut entries) {
+        Ok(value) => value,
+        Err(fault) => return Err(fault),
+    };
+    match others.read_entries::<S>(alloc, entries) {
+        Ok(rest) => Ok(FieldValues { value, rest }),
+        Err(fault) => Err(fault),
+    }
+}
