@@ -6,7 +6,7 @@ limits of the short forms, numbers near the boundaries of their widths, and char
 
 from decoding import frame_len
 from definitions import FIXED, RAW, SIGNED, Refused, encoding, written
-from nodes import FED, MARKS, combined, compound, image_or_itself
+from nodes import BY_CALLS, MARKS, combined, compound, image_or_itself
 
 # The kinds of scalars. Those before `float` are numbers, those from `char` on have any length.
 KINDS = (
@@ -16,7 +16,7 @@ KINDS = (
 NUMBERS, FIXED_WIDTH = KINDS[:11], KINDS[:17]
 
 # Encodings that `to_vec` does not write, and payloads that encode no value.
-SPELLED = [bytes.fromhex(digits) for digits in (
+LAZY_BYTES = [bytes.fromhex(digits) for digits in (
     "5601", "5602", "5200", "7000000000", "800000000000000007", "b10000000161", "b30000000161", "a101ff", "730000d800",
     "46", "c00100", "d00000000400000000", "d000000006000000015007", "c003025001", "c00401500140", "c1020140",
     "c10704405001405002", "e00100", "e0020050", "e0020341", "e0020245", "e0020100", "f000000006000000015007",
@@ -24,7 +24,7 @@ SPELLED = [bytes.fromhex(digits) for digits in (
 )]
 
 # The names of the ways of `combined`.
-WAYS, MARKERS = tuple(FED), tuple(MARKS)
+WAYS, MARKERS = tuple(BY_CALLS), tuple(MARKS)
 
 
 class Grower:
@@ -163,7 +163,7 @@ class Grower:
         if case < 2:
             return self.compound(self.below(4))
         if case == 5:
-            return lazy_of(SPELLED[self.below(len(SPELLED))])
+            return lazy_of(LAZY_BYTES[self.below(len(LAZY_BYTES))])
         if case < 10:
             made = {2: self.wrapped, 3: self.alike, 4: self.lazy, 6: self.image}
             return made.get(case, self.fed)()

@@ -5,7 +5,7 @@ A call takes memory
 - where an allocator is passed to it,
 - where it may be refused and its comment names `OutOfMemory`, `AllocError` or `ConvertFault::Memory`, or says "out of memory",
 - where it may be refused as another call of its trait that takes memory, so its comment says,
-- where it feeds a serializer, or ends what was fed: so much as the serializer takes.
+- where it serializes_into a serializer, or ends what was fed: so much as the serializer takes.
 
 A visitor, a reader and a writer are the caller's own: a call that hands them something takes what they take.
 It is public where its crate's root, or a public module of it, hands out its name, or that of its type or trait.
@@ -79,10 +79,10 @@ def takes_memory(signature, comment):
         return False
     if re.search(r"OutOfMemory|AllocError|ConvertFault::Memory|out of memory", comment):
         return True
-    return feeds(arguments, answer)
+    return serializes_into(arguments, answer)
 
 
-def feeds(arguments, answer):
+def serializes_into(arguments, answer):
     """Whether a serializer is fed a value or a part, or what was fed to it is ended."""
     fed = r"\bT: Serialize\b|\bK: Serialize\b|\bS: Serializer\b|: (?:&mut )?Self::Open|fn end\("
     return bool(re.search(r"\b(S|Self)::Error\b", answer) and re.search(fed, arguments))

@@ -35,7 +35,7 @@ def named(name):
 
 
 # Way to combine three nodes: the tree.
-FED = {
+BY_CALLS = {
     "described": lambda a, b, c: described(a, b),
     "newtype": lambda a, b, c: variant(1, a),
     "bare": lambda a, b, c: a,
@@ -84,7 +84,7 @@ def compound(name, parts):
 
 def combined(way, first, second, third):
     """The tree of three trees that are combined in this way."""
-    return FED[way](first, second, third) if way in FED else marked(way, first)
+    return BY_CALLS[way](first, second, third) if way in BY_CALLS else marked(way, first)
 
 
 def image(tree):
@@ -149,7 +149,7 @@ def pushed(stack, token):
     name, colon, argument = token.partition(":")
     if colon:
         return with_argument(stack, name, argument)
-    if name in FED or name in MARKS:
+    if name in BY_CALLS or name in MARKS:
         return combined(name, *popped(stack, 3))
     if name == "image":
         return image_or_itself(*popped(stack, 1))

@@ -5,12 +5,12 @@
 #include <stdio.h>
 #include <stdlib.h>
 
-enum { MOST = 256 << 20, KINDS = 4096 };
+enum { MOST = 256 << 20, PRIMITIVE_TYPES = 4096 };
 
 static uint64_t held, blocks;
 static struct {
   uint64_t bits, times;
-} seen[KINDS];
+} seen[PRIMITIVE_TYPES];
 
 Room rattle_alloc(size_t size, size_t align) {
   void *block = held + size > MOST ? NULL : malloc(size ? size : align);
@@ -41,7 +41,7 @@ int rattle_errno(void) { return 0; }
 static void keep(uint64_t bits, const uint8_t *data, size_t size) {
   int at = 0;
   char name[4096];
-  while (at < KINDS - 1 && seen[at].times && seen[at].bits != bits) at++;
+  while (at < PRIMITIVE_TYPES - 1 && seen[at].times && seen[at].bits != bits) at++;
   seen[at].bits = bits;
   if (seen[at].times++ >= 3) return;
   snprintf(name, sizeof name, "%s/%016llx.%llu", getenv("FOUND"), (unsigned long long)bits, (unsigned long long)seen[at].times);

@@ -13,7 +13,7 @@ use Rattle.std.specs.Vec.Iter.{into_iter_items, into_iter_steps}
 use Rattle.std.specs.declared.cmp.Ordering.TheVariants.{Less, Equal, Greater}
 use Rattle.std.specs.declared.vec.IntoIter.{IntoIter}
 use Rattle.amqp_data.specs.Pairs.{insert_pair, insert_pairs, LacksKey, AreDistinct}
-use Rattle.amqp_data.specs.Places.{place, places, Indexes}
+use Rattle.amqp_data.specs.KeyPositions.{key_position, key_positions, Indexes}
 use Rattle.amqp_data.proofs.PairLemmas.{insert_new}
 use Rattle.amqp_data.proofs.Searches.{AllFail, fail_by_position}
 
@@ -56,18 +56,18 @@ module _ {K : Type 0} (eq : K → K → Bool) (cmp : K → K → Ordering) (tota
   ascending_distinct (e ∷ es) up = neighbours_distinct (e ∷ es) e (λ i. up i e)
 
 module _ {K V : Type 0} (eq : K → K → Bool) (k : K) where
-  place_none : (es : List (K × V)) → AllFail (λ e. eq k e.0) es → place eq k es ≡ None
+  place_none : (es : List (K × V)) → AllFail (λ e. eq k e.0) es → key_position eq k es ≡ None
   place_none [] fails = refl
   place_none (e ∷ es) fails = rw fails.0 (ap (option_map suc) (place_none es fails.1))
 
   place_first : (es : List (K × V)) (i : ℕ) (d : K × V) → i < length es → eq k (get_or es i d).0 ≡ true
-      → ((j : ℕ) → j < i → eq k (get_or es j d).0 ≡ false) → place eq k es ≡ Some i
+      → ((j : ℕ) → j < i → eq k (get_or es j d).0 ≡ false) → key_position eq k es ≡ Some i
   place_first [] i d within is before = absurd (omega (arith, within))
   place_first (e ∷ es) zero d within is before = rw is
   place_first (e ∷ es) (suc i) d within is before =
       rw (before 0 (omega arith)) (ap (option_map suc) (place_first es i d (omega (arith, within)) is (λ j below. before (suc j) (omega (arith, below)))))
 
-  position_or : (es : List (K × V)) (o : Option ℕ) → position (λ e. eq k e.0) es ≡ o → place eq k es ≡ o
+  position_or : (es : List (K × V)) (o : Option ℕ) → position (λ e. eq k e.0) es ≡ o → key_position eq k es ≡ o
   position_or [] o is = is
   position_or (e ∷ es) None is = place_none (e ∷ es) (fail_by_position (λ x. eq k x.0) (e ∷ es) is)
   position_or (e ∷ es) (Some i) is =
@@ -75,25 +75,25 @@ module _ {K V : Type 0} (eq : K → K → Bool) (k : K) where
       place_first (e ∷ es) i e first.0 first.1 first.2
 
   -- the place of a key is its position
-  pub place_position : (es : List (K × V)) → place eq k es ≡ position (λ e. eq k e.0) es
+  pub place_position : (es : List (K × V)) → key_position eq k es ≡ position (λ e. eq k e.0) es
   place_position es = position_or es (position (λ e. eq k e.0) es) refl
 
 module _ {K V : Type 0} (eq : K → K → Bool) (k : K) (v : V) where
   -- inserting a key that is not present appends the entry
-  new_last : (es : List (K × V)) → place eq k es ≡ None → insert_pair eq es k v ≡ es ++ (k, v) ∷ []
+  new_last : (es : List (K × V)) → key_position eq k es ≡ None → insert_pair eq es k v ≡ es ++ (k, v) ∷ []
   new_last es none = sym (insert_new eq k es v (sym none ∙ place_position eq k es))
 
   keeps_step : (b : Bool) (o : Option ℕ) (e : K × V) (es : List (K × V)) (i : ℕ) (q : K) → cond b (Some 0) (option_map suc o) ≡ Some i
-      → ((j : ℕ) → o ≡ Some j → place eq q (insert_pair eq es k v) ≡ place eq q es)
-      → place eq q (if b then (e.0, v) ∷ es else e ∷ insert_pair eq es k v) ≡ place eq q (e ∷ es)
+      → ((j : ℕ) → o ≡ Some j → key_position eq q (insert_pair eq es k v) ≡ key_position eq q es)
+      → key_position eq q (if b then (e.0, v) ∷ es else e ∷ insert_pair eq es k v) ≡ key_position eq q (e ∷ es)
   keeps_step true o e es i q h rest = refl
   keeps_step false None e es i q h rest = cc
   keeps_step false (Some j) e es i q h rest = ap (λ p. cond (eq q e.0) (Some 0) (option_map suc p)) (rest j refl)
 
   -- inserting a key that is present changes no place
-  place_present : (es : List (K × V)) (i : ℕ) (q : K) → place eq k es ≡ Some i → place eq q (insert_pair eq es k v) ≡ place eq q es
+  place_present : (es : List (K × V)) (i : ℕ) (q : K) → key_position eq k es ≡ Some i → key_position eq q (insert_pair eq es k v) ≡ key_position eq q es
   place_present [] i q h = cc
-  place_present (e ∷ es) i q h = keeps_step (eq k e.0) (place eq k es) e es i q h (λ j found. place_present es j q found)
+  place_present (e ∷ es) i q h = keeps_step (eq k e.0) (key_position eq k es) e es i q h (λ j found. place_present es j q found)
 
   length_step : (b : Bool) (o : Option ℕ) (e : K × V) (es : List (K × V)) (i : ℕ) → cond b (Some 0) (option_map suc o) ≡ Some i
       → ((j : ℕ) → o ≡ Some j → length (insert_pair eq es k v) ≡ length es)
@@ -102,9 +102,9 @@ module _ {K V : Type 0} (eq : K → K → Bool) (k : K) (v : V) where
   length_step false None e es i h rest = cc
   length_step false (Some j) e es i h rest = ap suc (rest j refl)
 
-  length_present : (es : List (K × V)) (i : ℕ) → place eq k es ≡ Some i → length (insert_pair eq es k v) ≡ length es
+  length_present : (es : List (K × V)) (i : ℕ) → key_position eq k es ≡ Some i → length (insert_pair eq es k v) ≡ length es
   length_present [] i h = cc
-  length_present (e ∷ es) i h = length_step (eq k e.0) (place eq k es) e es i h (λ j found. length_present es j found)
+  length_present (e ∷ es) i h = length_step (eq k e.0) (key_position eq k es) e es i h (λ j found. length_present es j found)
 
 module _ {K V : Type 0} (eq : K → K → Bool) (symmetric : (x y : K) → eq x y ≡ eq y x) (congruent : (x y z : K) → eq x y ≡ true → eq x z ≡ eq y z) (k : K) (v : V) where
   last_step : (a b c : Bool) (o p : Option ℕ) (x : K) (q : K) (n : ℕ) → eq k x ≡ a → eq q x ≡ b → eq k q ≡ c → cond a (Some 0) (option_map suc o) ≡ None
@@ -117,22 +117,22 @@ module _ {K V : Type 0} (eq : K → K → Bool) (symmetric : (x y : K) → eq x 
   last_step false false true None p x q n ka qb kc h r rest = ap (option_map suc) (rest refl)
   last_step false false false None p x q n ka qb kc h r rest = ap (option_map suc) (rest refl)
 
-  place_last : (es : List (K × V)) (q : K) → place eq k es ≡ None → place eq q (es ++ (k, v) ∷ []) ≡ cond (eq k q) (Some (length es)) (place eq q es)
+  place_last : (es : List (K × V)) (q : K) → key_position eq k es ≡ None → key_position eq q (es ++ (k, v) ∷ []) ≡ cond (eq k q) (Some (length es)) (key_position eq q es)
   place_last [] q h = ap (λ b. cond b (Some 0) None) (symmetric q k)
   place_last (e ∷ es) q h =
-      last_step (eq k e.0) (eq q e.0) (eq k q) (place eq k es) (place eq q es) e.0 q (length es) refl refl refl h (place eq q (es ++ (k, v) ∷ [])) (place_last es q)
+      last_step (eq k e.0) (eq q e.0) (eq k q) (key_position eq k es) (key_position eq q es) e.0 q (length es) refl refl refl h (key_position eq q (es ++ (k, v) ∷ [])) (place_last es q)
 
 -- entries that are inserted one after another
 module _ {K V : Type 0} (eq : K → K → Bool) where
-  pub places_push : (es : List (K × V)) (e : K × V) (done : List (K × V)) → places eq (es ++ e ∷ []) done ≡ places eq es done ++ place eq e.0 (insert_pairs eq es done) ∷ []
+  pub places_push : (es : List (K × V)) (e : K × V) (done : List (K × V)) → key_positions eq (es ++ e ∷ []) done ≡ key_positions eq es done ++ key_position eq e.0 (insert_pairs eq es done) ∷ []
   places_push [] e done = refl
-  places_push (x ∷ es) e done = ap (λ r. place eq x.0 done ∷ r) (places_push es e (insert_pair eq done x.0 x.1))
+  places_push (x ∷ es) e done = ap (λ r. key_position eq x.0 done ∷ r) (places_push es e (insert_pair eq done x.0 x.1))
 
-  pub places_at : (es : List (K × V)) (e : K × V) (rest done : List (K × V)) (d : Option ℕ) → get_or (places eq (es ++ e ∷ rest) done) (length es) d ≡ place eq e.0 (insert_pairs eq es done)
+  pub places_at : (es : List (K × V)) (e : K × V) (rest done : List (K × V)) (d : Option ℕ) → get_or (key_positions eq (es ++ e ∷ rest) done) (length es) d ≡ key_position eq e.0 (insert_pairs eq es done)
   places_at [] e rest done d = refl
   places_at (x ∷ es) e rest done d = places_at es e rest (insert_pair eq done x.0 x.1) d
 
-  pub places_length : (es done : List (K × V)) → length (places eq es done) ≡ length es
+  pub places_length : (es done : List (K × V)) → length (key_positions eq es done) ≡ length es
   places_length [] done = refl
   places_length (x ∷ es) done = ap suc (places_length es (insert_pair eq done x.0 x.1))
 
@@ -140,9 +140,9 @@ module _ {K V : Type 0} (eq : K → K → Bool) where
 module _ {K V : Type 0} (eq : K → K → Bool) (cmp : K → K → Ordering) (index : BTreeMap (Bor K) ℕ) (key : Bor K) where
   -- looking up a present key finds its place
   pub find_present : (i : ℕ) → get (λ a b. cmp a.now b.now) index key ≡ Some i
-      → (done : List (K × V)) → Indexes eq cmp done index → (Some i ≡ place eq key.now done) × ((v : V) → Indexes eq cmp (insert_pair eq done key.now v) index)
+      → (done : List (K × V)) → Indexes eq cmp done index → (Some i ≡ key_position eq key.now done) × ((v : V) → Indexes eq cmp (insert_pair eq done key.now v) index)
   find_present i has done h =
-      let p : place eq key.now done ≡ Some i = sym (h.0 key) ∙ has in
+      let p : key_position eq key.now done ≡ Some i = sym (h.0 key) ∙ has in
       (sym p, λ v. (λ q. h.0 q ∙ sym (place_present eq key.now v done i q.now p), h.1 ∙ sym (length_present eq key.now v done i p)))
 
   -- adding a new key keeps the places right
@@ -150,14 +150,14 @@ module _ {K V : Type 0} (eq : K → K → Bool) (cmp : K → K → Ordering) (in
       → (new : BTreeMap (Bor K) ℕ) → get (λ a b. cmp a.now b.now) index key ≡ None
       → ((q : Bor K) → get (λ a b. cmp a.now b.now) new q ≡ cond (is_eq (cmp key.now q.now)) (Some (btree_map_len index)) (get (λ a b. cmp a.now b.now) index q))
       → btree_map_len new ≡ btree_map_len index + 1
-      → (done : List (K × V)) → Indexes eq cmp done index → (None ≡ place eq key.now done) × ((v : V) → Indexes eq cmp (insert_pair eq done key.now v) new)
+      → (done : List (K × V)) → Indexes eq cmp done index → (None ≡ key_position eq key.now done) × ((v : V) → Indexes eq cmp (insert_pair eq done key.now v) new)
   find_new symmetric congruent ties new none up longer done h =
-      let p : place eq key.now done ≡ None = sym (h.0 key) ∙ none in (
+      let p : key_position eq key.now done ≡ None = sym (h.0 key) ∙ none in (
         sym p,
         λ v.
             let last = new_last eq key.now v done p in (
               λ q. up q ∙ (λ i. cond (sym (ties key.now q.now) i) (Some (h.1 i)) (h.0 q i))
-                  ∙ sym (ap (place eq q.now) last ∙ place_last eq symmetric congruent key.now v done q.now p),
+                  ∙ sym (ap (key_position eq q.now) last ∙ place_last eq symmetric congruent key.now v done q.now p),
               longer ∙ ap (λ n. n + 1) h.1 ∙ sym (ap length last ∙ length-append done ((key.now, v) ∷ [])),
             ),
       )

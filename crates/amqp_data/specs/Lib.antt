@@ -12,7 +12,7 @@ pub mod MapEntry
 pub mod MapIters
 pub mod MapLends
 pub mod Pairs
-pub mod Places
-pub mod Shown
+pub mod KeyPositions
+pub mod Displayed
 pub mod SortedHashes
 pub mod Text

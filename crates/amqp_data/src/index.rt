@@ -149,7 +149,7 @@ pub(crate) fn add(heads: &mut [u32], earlier: &mut Vec<u32>, bucket: usize) -> b
 
 /// Makes an index with `count` buckets. Returns `None` if an allocation fails, or if there are 2³² - 1
 /// entries.
-pub(crate) fn build<K: Hash, V>(
+pub(crate) fn index_entries<K: Hash, V>(
     alloc: Global,
     entries: &[(K, V)],
     count: usize,
@@ -206,7 +206,7 @@ fn add_to_index<K: Hash + Eq, V>(
     }
     heads.clear();
     let count = entries.len().saturating_mul(2);
-    if let Some((new_heads, new_earlier)) = build(*heads.allocator(), entries, count) {
+    if let Some((new_heads, new_earlier)) = index_entries(*heads.allocator(), entries, count) {
         *heads = new_heads;
         *earlier = new_earlier;
     }

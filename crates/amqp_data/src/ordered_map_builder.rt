@@ -4,7 +4,7 @@ ghost use Rattle.std.specs.Prelude.{◌≡◌, [], IsOk, IfOk, IfErr, OnOk, OnEr
 ghost use Rattle.std.specs.Map.{lookup};
 ghost use Rattle.amqp_data.specs.Pairs.{entries_of, insert_pair};
 
-use crate::index::{add_last, build, locate};
+use crate::index::{add_last, index_entries, locate};
 use crate::{Error, OrderedMap};
 use std::alloc::Global;
 use std::hash::Hash;
@@ -64,7 +64,7 @@ impl<K: Hash + Eq, V> OrderedMapBuilder<K, V> {
         ensures { result ≡ [] }
     {
         let entries = Vec::new(alloc);
-        let (heads, earlier) = match build(alloc, &entries, count.saturating_mul(2).max(1)) {
+        let (heads, earlier) = match index_entries(alloc, &entries, count.saturating_mul(2).max(1)) {
             Some(index) => index,
             None => (Vec::new(alloc), Vec::new(alloc)),
         };

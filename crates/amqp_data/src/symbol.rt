@@ -2,7 +2,7 @@
 //! 1.6.21).
 
 ghost use Rattle.std.specs.Prelude.{◌≡◌, ◌==◌, length, IfOk, IfErr, Some, string_bytes};
-ghost use Rattle.amqp_data.specs.Shown.{shown_symbol};
+ghost use Rattle.amqp_data.specs.Displayed.{displayed_symbol};
 ghost use Rattle.amqp_data.specs.Text.{symbol_text, symbol_ref_text};
 
 use crate::Error;
@@ -104,7 +104,7 @@ impl From<String> for Symbol {
 /// # Example
 /// `:amqp`.
 impl fmt::Display for Symbol {
-    ghost output = { λ symbol. Some (shown_symbol (symbol_text symbol)) };
+    ghost output = { λ symbol. Some (displayed_symbol (symbol_text symbol)) };
 
     fn fmt<W: Write>(&self, f: &mut Formatter<W>) -> fmt::Result {
         f.write_str(":")?;

@@ -5,7 +5,7 @@ ghost use Rattle.std.specs.Prelude.{IsAscii};
 ghost use Rattle.std.specs.Char.{to_ascii_lowercase};
 ghost use Rattle.amqp_data.specs.Fixed.{uuid_bytes, GivesFixed};
 ghost use Rattle.amqp_data.specs.Hexadecimal.{hex};
-ghost use Rattle.amqp_data.specs.Shown.{shown_uuid, uuid_group};
+ghost use Rattle.amqp_data.specs.Displayed.{displayed_uuid, uuid_group};
 
 use crate::Error;
 use crate::hexadecimal::put_digits;
@@ -59,7 +59,7 @@ impl Uuid {
     /// `9800112233445566778899aabbccddeeff`.
     pub fn parse_str(text: &str) -> Result<Uuid, Error>
         ensures ok { IfOk result (λ uuid. map to_ascii_lowercase text.now
-            ≡ map to_ascii_lowercase (shown_uuid (uuid_bytes uuid))) }
+            ≡ map to_ascii_lowercase (displayed_uuid (uuid_bytes uuid))) }
         ensures invalid { IfErr result (λ e. e ≡ Error.InvalidValue) }
     {
         let text = text.as_bytes();
@@ -109,7 +109,7 @@ impl TryFrom<&[u8]> for Uuid {
 /// # Example
 /// `00112233-4455-6677-8899-aabbccddeeff`.
 impl fmt::Display for Uuid {
-    ghost output = { λ uuid. Some (shown_uuid (uuid_bytes uuid)) };
+    ghost output = { λ uuid. Some (displayed_uuid (uuid_bytes uuid)) };
 
     fn fmt<W: Write>(&self, f: &mut Formatter<W>) -> fmt::Result {
         let text = uuid_text(&self.0);
@@ -119,7 +119,7 @@ impl fmt::Display for Uuid {
 
 // Returns the text of the uuid with these bytes.
 fn uuid_text(bytes: &[u8; 16]) -> [u8; 36]
-    ensures text { result ≡ shown_uuid bytes.now }
+    ensures text { result ≡ displayed_uuid bytes.now }
     ensures ascii { IsAscii result }
 {
     let mut text = [0; 36];

@@ -5,12 +5,12 @@ use Rattle.amqp_ser.specs.Tree.{Tree, Trees, Pairs, Scalar, trees_of}
 use Rattle.amqp_value.specs.TreeOf.{pairs_of}
 use Rattle.amqp_de.specs.Fields.{FieldSource, by_position, by_name, OnFields, OnEntries, OnNamed}
 use Rattle.amqp_de.specs.Present.{IsImage, all_images, short_list, short_map}
-use Rattle.amqp_de.specs.Forms.{form_of, form_of_scalar, Looks}
-use Rattle.amqp_de.specs.declared.form.Form.{Form}
-use Rattle.amqp_de.specs.declared.form.Form.TheVariants as form
+use Rattle.amqp_de.specs.SourceKinds.{source_kind_of, source_kind_of_scalar, HasSourceKind}
+use Rattle.amqp_de.specs.declared.source_kind.SourceKind.{SourceKind}
+use Rattle.amqp_de.specs.declared.source_kind.SourceKind.TheVariants as form
 use Rattle.amqp_de.proofs.Lists.{list_of_trees, is_fields, is_entries}
 
-scalar_form : (s : Scalar) → (form_of_scalar s ≡ form.Uint) ⊎ (form_of_scalar s ≡ form.Other)
+scalar_form : (s : Scalar) → (source_kind_of_scalar s ≡ form.Uint) ⊎ (source_kind_of_scalar s ≡ form.Other)
 scalar_form tree.null = inr refl
 scalar_form (tree.bool b) = inr refl
 scalar_form (tree.ubyte n) = inr refl
@@ -33,10 +33,10 @@ scalar_form (tree.binary bs) = inr refl
 scalar_form (tree.string bs) = inr refl
 scalar_form (tree.symbol bs) = inr refl
 
-no_scalar : (s : Scalar) (f : Form) → f ≡ form_of_scalar s → (f ≡ form.Uint → ⊥) → (f ≡ form.Other → ⊥) → ⊥
+no_scalar : (s : Scalar) (f : SourceKind) → f ≡ source_kind_of_scalar s → (f ≡ form.Uint → ⊥) → (f ≡ form.Other → ⊥) → ⊥
 no_scalar s f e a b = elim (scalar_form s) [ inl i ↦ a (e ∙ i) | inr o ↦ b (e ∙ o) ]
 
-pub list_form : (t : Tree) → form.List ≡ form_of t → (ts : Trees) × (t ≡ tree.list ts)
+pub list_form : (t : Tree) → form.List ≡ source_kind_of t → (ts : Trees) × (t ≡ tree.list ts)
 list_form (tree.list us) e = (us, refl)
 list_form (tree.array us) e = absurd cc
 list_form (tree.map ps) e = absurd cc
@@ -46,7 +46,7 @@ list_form (tree.variant i u) e = absurd cc
 list_form (tree.lazy bs) e = absurd cc
 list_form (tree.transparent us) e = absurd cc
 
-pub array_form : (t : Tree) → form.Array ≡ form_of t → (ts : Trees) × (t ≡ tree.array ts)
+pub array_form : (t : Tree) → form.Array ≡ source_kind_of t → (ts : Trees) × (t ≡ tree.array ts)
 array_form (tree.list us) e = absurd cc
 array_form (tree.array us) e = (us, refl)
 array_form (tree.map ps) e = absurd cc
@@ -56,7 +56,7 @@ array_form (tree.variant i u) e = absurd cc
 array_form (tree.lazy bs) e = absurd cc
 array_form (tree.transparent us) e = absurd cc
 
-pub map_form : (t : Tree) → form.Map ≡ form_of t → (ps : Pairs) × (t ≡ tree.map ps)
+pub map_form : (t : Tree) → form.Map ≡ source_kind_of t → (ps : Pairs) × (t ≡ tree.map ps)
 map_form (tree.list us) e = absurd cc
 map_form (tree.array us) e = absurd cc
 map_form (tree.map ps) e = (ps, refl)
@@ -94,7 +94,7 @@ module _ (K : FieldSource → Type 0) (t : Tree) where
   named_entries ps is h = let k : OnNamed K (tree.map ps) = subst (OnNamed K) is h in rw is k
 
 -- Fields are read from a list, an array or a map alone.
-pub named_form : (K : FieldSource → Type 0) (t : Tree) → OnNamed K t → (form.Uint ≡ form_of t → ⊥) × (form.Other ≡ form_of t → ⊥)
+pub named_form : (K : FieldSource → Type 0) (t : Tree) → OnNamed K t → (form.Uint ≡ source_kind_of t → ⊥) × (form.Other ≡ source_kind_of t → ⊥)
 unfolding OnNamed
 named_form K (tree.list ts) h = (λ e. absurd cc, λ e. absurd cc)
 named_form K (tree.array ts) h = (λ e. absurd cc, λ e. absurd cc)
@@ -118,19 +118,19 @@ module _ (ns : List (List ℕ)) (fs : List (Bool × Tree)) (t : Tree) where
   unfolding short_list
   map_image ps is i = elim i [ inl all ↦ absurd (no_map_list t ps _ is all) | inr j ↦ elim j [ inl short ↦ absurd (no_map_list t ps _ is short) | inr entries ↦ entries ] ]
 
-  pub no_image : (f : Form) → f ≡ form_of t → (f ≡ form.List → ⊥) → (f ≡ form.Map → ⊥) → IsImage ns fs t → ⊥
+  pub no_image : (f : SourceKind) → f ≡ source_kind_of t → (f ≡ form.List → ⊥) → (f ≡ form.Map → ⊥) → IsImage ns fs t → ⊥
   unfolding short_list short_map
-  no_image f e no_list no_map i = elim i [ inl all ↦ no_list (e ∙ ap form_of all) | inr j ↦ elim j [ inl short ↦ no_list (e ∙ ap form_of short) | inr entries ↦ no_map (e ∙ ap form_of entries) ] ]
+  no_image f e no_list no_map i = elim i [ inl all ↦ no_list (e ∙ ap source_kind_of all) | inr j ↦ elim j [ inl short ↦ no_list (e ∙ ap source_kind_of short) | inr entries ↦ no_map (e ∙ ap source_kind_of entries) ] ]
 
 -- What a value looks to be, if it is told, is its kind.
-pub looks_form : (f : Form) (t : Tree) → Looks f t → (f ≡ form.Other → ⊥) → f ≡ form_of t
-looks_form form.List t e told = e
-looks_form form.Array t e told = e
-looks_form form.Map t e told = e
-looks_form form.Uint t e told = e
-looks_form form.Other t e told = absurd (told refl)
+pub source_kind_is : (f : SourceKind) (t : Tree) → HasSourceKind f t → (f ≡ form.Other → ⊥) → f ≡ source_kind_of t
+source_kind_is form.List t e told = e
+source_kind_is form.Array t e told = e
+source_kind_is form.Map t e told = e
+source_kind_is form.Uint t e told = e
+source_kind_is form.Other t e told = absurd (told refl)
 
-pub looks_of : (f : Form) (t : Tree) → f ≡ form_of t → Looks f t
+pub looks_of : (f : SourceKind) (t : Tree) → f ≡ source_kind_of t → HasSourceKind f t
 looks_of form.List t e = e
 looks_of form.Array t e = e
 looks_of form.Map t e = e

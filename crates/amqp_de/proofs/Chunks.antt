@@ -15,7 +15,7 @@ use Rattle.amqp_decode.specs.Parsed.{gather, parse, parse_content}
 use Rattle.amqp_decode.specs.Prefix.{item_of}
 use Rattle.amqp_decode.specs.declared.payload_shape.PayloadShape.TheVariants as shape
 use Rattle.amqp_decode.proofs.Gathers.{first_gathered}
-use Rattle.amqp_decode.proofs.Levels.{parse_frame}
+use Rattle.amqp_decode.proofs.Levels.{parse_value}
 use Rattle.amqp_decode.proofs.ScalarForms.{fixed-is}
 use Rattle.amqp_decode.proofs.Whole.{nil-from_length}
 use Rattle.amqp_de.specs.Encodings.{Fills}
@@ -47,7 +47,7 @@ module _ {T A : Type 0} (kind : A → Scalar) (content : T → A)
     (reads : (bs : List ℕ) (x : T) → length bs ≡ width → Is bs x → scalar_in c bs ≡ Some (kind (content x))) where
   one_chunk : (d : ℕ) (bs s : List ℕ) (x : T) → length bs ≡ width → Is bs x → item_of d (code_of c) (bs ++ s) ≡ Some (scalar (kind (content x)), s)
   one_chunk d bs s x len h =
-      parse_frame d (code_of c ∷ (bs ++ s))
+      parse_value d (code_of c ∷ (bs ++ s))
       ∙ fixed-is c bs s (kind (content x)) ok is (wide ∙ ap Fixed (sym len)) (reads bs x len h) (parse d) (parse_content d)
 
   -- The numbers that fill the content are the elements.

@@ -3,14 +3,14 @@ use Rattle.std.proofs.Common.{◌≡◌, ◌⊎◌, inl, inr, List, [], ◌∷�
 use Rattle.std.specs.List.{AllZip, AllByRecursion}
 use Rattle.amqp_de.specs.Reads.{Always}
 use Rattle.amqp_ser.specs.Tree.{Tree, Scalar, scalar}
-use Rattle.amqp_de.specs.Results.{Reading}
+use Rattle.amqp_de.specs.Results.{ReadsAndRestores}
 
 module _ {T A : Type 0} (kind : A → Scalar) (content : T → A) where
   abbrev pub Holding : Tree → T → Type 0
   Holding t x = t ≡ scalar (kind (content x))
 
   abbrev pub ReadingContent : Tree → T → Type 0
-  ReadingContent = Reading Holding (λ x. scalar (kind (content x))) Always (λ x y. content x ≡ content y)
+  ReadingContent = ReadsAndRestores Holding (λ x. scalar (kind (content x))) Always (λ x y. content x ≡ content y)
 
   module _ (told : (a b : A) → kind a ≡ kind b → a ≡ b) where
     content_read : (t : Tree) (x : T) → Holding t x → ReadingContent t x

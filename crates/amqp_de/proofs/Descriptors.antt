@@ -1,7 +1,7 @@
 -- What is read from a ulong or a symbol as a descriptor.
 use Rattle.std.proofs.Common.{◌≡◌, inl, inr, Result, Ok, Err, refl, sym, ap, ◌∙◌}
 use Rattle.amqp_ser.specs.Tree.{Tree, Descriptor, code, name, scalar}
-use Rattle.amqp_decode.specs.Spells.{descriptor_scalar}
+use Rattle.amqp_decode.specs.Encodes.{descriptor_scalar}
 use Rattle.amqp_de.specs.Reads.{Always, descriptor_tree}
 use Rattle.amqp_de.specs.Results.{Takes, Brings}
 use Rattle.amqp_de.specs.declared.fault.Fault.{Fault}

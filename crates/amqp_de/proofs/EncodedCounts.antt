@@ -3,27 +3,27 @@ use Rattle.std.proofs.Common.{◌≡◌, ℕ, zero, suc, ◌+◌, ◌-◌, ◌*�
 use Rattle.std.proofs.lemmas.List.{append-nil}
 use Rattle.std.specs.List.{AllZip}
 use Rattle.amqp_ser.specs.Tree.{Tree, Scalar, Descriptor, scalar}
-use Rattle.amqp_decode.specs.Parsed.{FrameReader, gather, parse, parse_content, descriptor_at}
+use Rattle.amqp_decode.specs.Parsed.{ValueReader, gather, parse, parse_content, descriptor_at}
 use Rattle.amqp_decode.specs.Prefix.{HasCountOf, HasCountOfPayloads, IsScalar, item_of}
 use Rattle.amqp_decode.specs.Scalars.{and_then}
 use Rattle.amqp_decode.specs.WithoutBytes.{Counter, content_without_bytes, elements_without_bytes, if_read, sum_of}
 use Rattle.amqp_decode.proofs.Counts.{found-count}
 use Rattle.amqp_decode.proofs.Levels.{both, some_same}
 use Rattle.amqp_decode.proofs.Steps.{not-zero}
-use Rattle.amqp_de.specs.EncodedTrees.{count_of, form_of}
+use Rattle.amqp_de.specs.EncodedTrees.{element_counter, element_reader}
 use Rattle.amqp_de.proofs.EncodedLemmas.{form_of_items}
-use Rattle.amqp_de.proofs.ScalarCounts.{count_frame, scalar_none}
+use Rattle.amqp_de.proofs.ScalarCounts.{count_value, scalar_none}
 
 pub scalar_counts : (d : ℕ) (bytes rest : List ℕ) (k : Scalar) → IsScalar bytes rest k → elements_without_bytes (suc d) bytes ≡ 0
 scalar_counts d bytes rest k is = found-count (suc d) bytes (scalar k, rest) (omega arith) is
 
-count_of_items : (d c : ℕ) → (c ≡ 0 → ⊥) → count_of d c ≡ (λ s. elements_without_bytes (suc d) (c ∷ s))
+count_of_items : (d c : ℕ) → (c ≡ 0 → ⊥) → element_counter d c ≡ (λ s. elements_without_bytes (suc d) (c ∷ s))
 count_of_items d c some = rw (not-zero c some) refl
 
 pub list_counts : (depth d n : ℕ) (bytes body : List ℕ) → depth ≡ suc d → HasCountOf bytes n body
-    → sum_of (count_of d 0) (form_of d 0) n body ≡ 0 → elements_without_bytes (suc depth) bytes ≡ 0
+    → sum_of (element_counter d 0) (element_reader d 0) n body ≡ 0 → elements_without_bytes (suc depth) bytes ≡ 0
 list_counts depth d n bytes body deep counted none =
-    count_frame depth bytes
+    count_value depth bytes
     ∙ counted (elements_without_bytes depth) (parse depth) (content_without_bytes depth) (parse_content depth)
     ∙ ap (λ z. sum_of (elements_without_bytes z) (parse z) n body) deep
     ∙ none
@@ -31,33 +31,33 @@ list_counts depth d n bytes body deep counted none =
 pub map_counts : (depth d n : ℕ) (bytes body : List ℕ) → depth ≡ suc d → HasCountOf bytes (2 * n) body
     → sum_of (elements_without_bytes (suc d)) (parse (suc d)) (2 * n) body ≡ 0 → elements_without_bytes (suc depth) bytes ≡ 0
 map_counts depth d n bytes body deep counted none =
-    count_frame depth bytes
+    count_value depth bytes
     ∙ counted (elements_without_bytes depth) (parse depth) (content_without_bytes depth) (parse_content depth)
     ∙ ap (λ z. sum_of (elements_without_bytes z) (parse z) (2 * n) body) deep
     ∙ none
 
 pub array_counts : (depth d n c : ℕ) (bytes payloads : List ℕ) (ts : List Tree) → depth ≡ suc d → (c ≡ 0 → ⊥) → HasCountOfPayloads bytes n c payloads
-    → gather (form_of d c) n payloads [] ≡ Some (ts, []) → sum_of (count_of d c) (form_of d c) n payloads ≡ 0 → elements_without_bytes (suc depth) bytes ≡ 0
+    → gather (element_reader d c) n payloads [] ≡ Some (ts, []) → sum_of (element_counter d c) (element_reader d c) n payloads ≡ 0 → elements_without_bytes (suc depth) bytes ≡ 0
 array_counts depth d n c bytes payloads ts deep some counted all none =
     let inner : gather (item_of d c) n payloads [] ≡ Some (ts, []) = sym (ap (λ f. gather f n payloads []) (form_of_items d c some)) ∙ all in
     ap (λ z. elements_without_bytes (suc z) bytes) deep
     ∙ counted d ts inner
     ∙ sym (ap (λ f. sum_of f (item_of d c) n payloads) (count_of_items d c some))
-    ∙ sym (ap (λ f. sum_of (count_of d c) f n payloads) (form_of_items d c some))
+    ∙ sym (ap (λ f. sum_of (element_counter d c) f n payloads) (form_of_items d c some))
     ∙ none
 
 pub described_counts : (depth d c k : ℕ) (bytes after s : List ℕ) (e : Descriptor) → c ≡ 0 → depth ≡ suc d → descriptor_at bytes ≡ Some (e, after) → after ≡ k ∷ s
     → elements_without_bytes (suc d) (k ∷ s) ≡ 0 → elements_without_bytes (suc depth) (c ∷ bytes) ≡ 0
 described_counts depth d c k bytes after s e is_zero deep at whole none =
     ap (λ z. elements_without_bytes (suc depth) (z ∷ bytes)) is_zero
-    ∙ count_frame depth (0 ∷ bytes)
+    ∙ count_value depth (0 ∷ bytes)
     ∙ ap (λ o. if_read o (λ q. elements_without_bytes depth q.1)) at
     ∙ ap (elements_without_bytes depth) whole
     ∙ ap (λ z. elements_without_bytes z (k ∷ s)) deep
     ∙ none
 
 -- The elements, one after another.
-sum_more : (c : Counter) (f : FrameReader) (n : ℕ) (s r : List ℕ) (t : Tree) → (n ≡ 0 → ⊥) → f s ≡ Some (t, r) → c s ≡ 0 → sum_of c f (n - 1) r ≡ 0 → sum_of c f n s ≡ 0
+sum_more : (c : Counter) (f : ValueReader) (n : ℕ) (s r : List ℕ) (t : Tree) → (n ≡ 0 → ⊥) → f s ≡ Some (t, r) → c s ≡ 0 → sum_of c f (n - 1) r ≡ 0 → sum_of c f n s ≡ 0
 sum_more c f zero s r t some e first others = absurd (some refl)
 sum_more c f (suc n) s r t some e first others =
     let less : suc n - 1 ≡ n = omega arith in
@@ -66,24 +66,24 @@ sum_more c f (suc n) s r t some e first others =
     omega (arith, first, inner, step)
 
 pub own_counts : (depth c n : ℕ) (s r : List ℕ) (t : Tree) → c ≡ 0 → (n ≡ 0 → ⊥) → parse (suc depth) s ≡ Some (t, r)
-    → elements_without_bytes (suc depth) s ≡ 0 → sum_of (count_of depth c) (form_of depth c) (n - 1) r ≡ 0
-    → sum_of (count_of depth c) (form_of depth c) n s ≡ 0
+    → elements_without_bytes (suc depth) s ≡ 0 → sum_of (element_counter depth c) (element_reader depth c) (n - 1) r ≡ 0
+    → sum_of (element_counter depth c) (element_reader depth c) n s ≡ 0
 own_counts depth c n s r t own some e first others =
-    let form : form_of depth c ≡ parse (suc depth) = ap (form_of depth) own in
-    let count : count_of depth c ≡ elements_without_bytes (suc depth) = ap (count_of depth) own in
-    sum_more (count_of depth c) (form_of depth c) n s r t some (ap (λ f. f s) form ∙ e) (ap (λ f. f s) count ∙ first) others
+    let form : element_reader depth c ≡ parse (suc depth) = ap (element_reader depth) own in
+    let count : element_counter depth c ≡ elements_without_bytes (suc depth) = ap (element_counter depth) own in
+    sum_more (element_counter depth c) (element_reader depth c) n s r t some (ap (λ f. f s) form ∙ e) (ap (λ f. f s) count ∙ first) others
 
 pub item_counts : (depth c n : ℕ) (s r : List ℕ) (t : Tree) → (c ≡ 0 → ⊥) → (n ≡ 0 → ⊥) → parse (suc depth) (c ∷ s) ≡ Some (t, r)
-    → elements_without_bytes (suc depth) (c ∷ s) ≡ 0 → sum_of (count_of depth c) (form_of depth c) (n - 1) r ≡ 0
-    → sum_of (count_of depth c) (form_of depth c) n s ≡ 0
+    → elements_without_bytes (suc depth) (c ∷ s) ≡ 0 → sum_of (element_counter depth c) (element_reader depth c) (n - 1) r ≡ 0
+    → sum_of (element_counter depth c) (element_reader depth c) n s ≡ 0
 item_counts depth c n s r t of some e first others =
-    sum_more (count_of depth c) (form_of depth c) n s r t some (ap (λ f. f s) (form_of_items depth c of) ∙ e) (ap (λ f. f s) (count_of_items depth c of) ∙ first) others
+    sum_more (element_counter depth c) (element_reader depth c) n s r t some (ap (λ f. f s) (form_of_items depth c of) ∙ e) (ap (λ f. f s) (count_of_items depth c of) ∙ first) others
 
-pub closed_counts : (c : Counter) (f : FrameReader) (n : ℕ) (s : List ℕ) → n ≡ 0 → sum_of c f n s ≡ 0
+pub closed_counts : (c : Counter) (f : ValueReader) (n : ℕ) (s : List ℕ) → n ≡ 0 → sum_of c f n s ≡ 0
 closed_counts c f n s none = ap (λ z. sum_of c f z s) none
 
 -- The entries, one after another.
-pub pair_counts : (c : Counter) (f : FrameReader) (n : ℕ) (s m v : List ℕ) (k t : Tree) → (n ≡ 0 → ⊥) → f s ≡ Some (k, m) → f m ≡ Some (t, v) → c s ≡ 0 → c m ≡ 0
+pub pair_counts : (c : Counter) (f : ValueReader) (n : ℕ) (s m v : List ℕ) (k t : Tree) → (n ≡ 0 → ⊥) → f s ≡ Some (k, m) → f m ≡ Some (t, v) → c s ≡ 0 → c m ≡ 0
     → sum_of c f (2 * (n - 1)) v ≡ 0 → sum_of c f (2 * n) s ≡ 0
 pair_counts c f zero s m v k t some key value first second others = absurd (some refl)
 pair_counts c f (suc n) s m v k t some key value first second others =
@@ -94,11 +94,11 @@ pair_counts c f (suc n) s m v k t some key value first second others =
     let whole : sum_of c f (2 * suc n) s ≡ sum_of c f (suc (suc (2 * n))) s = ap (λ z. sum_of c f z s) more in
     omega (arith, first, second, inner, step, whole)
 
-pub closed_entry_counts : (c : Counter) (f : FrameReader) (n : ℕ) (s : List ℕ) → n ≡ 0 → sum_of c f (2 * n) s ≡ 0
+pub closed_entry_counts : (c : Counter) (f : ValueReader) (n : ℕ) (s : List ℕ) → n ≡ 0 → sum_of c f (2 * n) s ≡ 0
 closed_entry_counts c f n s none = ap (λ z. sum_of c f (2 * z) s) none
 
 -- Scalars of one kind.
-module _ (c : Counter) (f : FrameReader) (none : (s r : List ℕ) (k : Scalar) → f s ≡ Some (scalar k, r) → c s ≡ 0) where
+module _ (c : Counter) (f : ValueReader) (none : (s r : List ℕ) (k : Scalar) → f s ≡ Some (scalar k, r) → c s ≡ 0) where
   gathered_after : (n : ℕ) (s r : List ℕ) (done ts : List Tree) → gather f n s done ≡ Some (ts, r) → (us : List Tree) × (ts ≡ done ++ us)
   gathered_after zero s r done ts e =
       let same = some_same {A = List Tree × List ℕ} (done, s) (ts, r) e in
@@ -133,7 +133,7 @@ element_none : (depth c : ℕ) (s r : List ℕ) (k : Scalar) (b : Bool)
 element_none depth c s r k true e = scalar_none depth s r k e
 element_none depth c s r k false e = scalar_none depth (c ∷ s) r k e
 
-pub scalars_counts : {A : Type 0} (kind : A → Scalar) (depth c n : ℕ) (s : List ℕ) (ts : List Tree) (xs : List A) → gather (form_of depth c) n s [] ≡ Some (ts, [])
-    → AllZip (λ t x. t ≡ scalar (kind x)) ts xs → sum_of (count_of depth c) (form_of depth c) n s ≡ 0
+pub scalars_counts : {A : Type 0} (kind : A → Scalar) (depth c n : ℕ) (s : List ℕ) (ts : List Tree) (xs : List A) → gather (element_reader depth c) n s [] ≡ Some (ts, [])
+    → AllZip (λ t x. t ≡ scalar (kind x)) ts xs → sum_of (element_counter depth c) (element_reader depth c) n s ≡ 0
 scalars_counts kind depth c n s ts xs e zip =
-    gathered_none (count_of depth c) (form_of depth c) (λ s r k is. element_none depth c s r k (c == 0) is) kind n s [] [] ts xs e zip
+    gathered_none (element_counter depth c) (element_reader depth c) (λ s r k is. element_none depth c s r k (c == 0) is) kind n s [] [] ts xs e zip

@@ -10,15 +10,15 @@ use Rattle.amqp_ser.specs.Tree.{Tree, Scalar, Descriptor, Pairs, scalar, null, s
 use Rattle.amqp_value.specs.Converts.{inserted_in_order}
 use Rattle.amqp_value.specs.Image.{insert_tree}
 use Rattle.amqp_value.specs.TreeOf.{pairs_of}
-use Rattle.amqp_decode.specs.Parsed.{FrameReader, gather, insert, parse, parse_content, frame_in, descriptor_at, parse_described}
+use Rattle.amqp_decode.specs.Parsed.{ValueReader, gather, insert, parse, parse_content, value_in_bytes, descriptor_at, parse_described}
 use Rattle.amqp_decode.specs.Prefix.{IsScalar, IsListOf, IsMapOf, IsArrayOf, item_of}
 use Rattle.amqp_decode.specs.Scalars.{and_then}
 use Rattle.amqp_decode.proofs.Gathers.{first_gathered}
-use Rattle.amqp_decode.proofs.Levels.{parse_frame, some_same, both}
+use Rattle.amqp_decode.proofs.Levels.{parse_value, some_same, both}
 use Rattle.amqp_decode.proofs.ScalarForms.{null-is}
 use Rattle.amqp_decode.proofs.Steps.{not-zero}
 use Rattle.amqp_de.specs.Encodings.{Fills, collect}
-use Rattle.amqp_de.specs.EncodedTrees.{tree_in, form_of, HasOnly}
+use Rattle.amqp_de.specs.EncodedTrees.{tree_in, element_reader, HasOnly}
 use Rattle.amqp_de.specs.Fields.{value_at, without}
 use Rattle.amqp_de.specs.Maps.{AreApart}
 use Rattle.amqp_de.specs.Present.{has_name, present_fields}
@@ -32,27 +32,27 @@ found p t r e = let same : tree_in p ≡ t = ap tree_in e in (same, e ∙ ap (λ
 
 pub scalar_found : (d : ℕ) (bytes rest : List ℕ) (k : Scalar) → IsScalar bytes rest k
     → (tree_in (parse (suc d) bytes) ≡ scalar k) × (parse (suc d) bytes ≡ Some (tree_in (parse (suc d) bytes), rest))
-scalar_found d bytes rest k is = found (parse (suc d) bytes) (scalar k) rest (parse_frame d bytes ∙ is (parse d) (parse_content d))
+scalar_found d bytes rest k is = found (parse (suc d) bytes) (scalar k) rest (parse_value d bytes ∙ is (parse d) (parse_content d))
 
 pub list_found : (depth d n : ℕ) (bytes rest body : List ℕ) (ts : List Tree) → depth ≡ suc d → IsListOf bytes rest n body
-    → gather (form_of d 0) n body [] ≡ Some (ts, [])
+    → gather (element_reader d 0) n body [] ≡ Some (ts, [])
     → (tree_in (parse (suc depth) bytes) ≡ list (trees_of ts)) × (parse (suc depth) bytes ≡ Some (tree_in (parse (suc depth) bytes), rest))
 list_found depth d n bytes rest body ts deep is all =
     let inner : gather (parse depth) n body [] ≡ Some (ts, []) = ap (λ z. gather (parse z) n body []) deep ∙ all in
-    found (parse (suc depth) bytes) (list (trees_of ts)) rest (parse_frame depth bytes ∙ is (parse depth) (parse_content depth) ts inner)
+    found (parse (suc depth) bytes) (list (trees_of ts)) rest (parse_value depth bytes ∙ is (parse depth) (parse_content depth) ts inner)
 
-pub form_of_items : (d c : ℕ) → (c ≡ 0 → ⊥) → form_of d c ≡ item_of d c
+pub form_of_items : (d c : ℕ) → (c ≡ 0 → ⊥) → element_reader d c ≡ item_of d c
 form_of_items d c some = rw (not-zero c some) refl
 
 pub array_found : (depth d n c : ℕ) (bytes rest items : List ℕ) (ts : List Tree) → depth ≡ suc d → (c ≡ 0 → ⊥) → IsArrayOf bytes rest n c items
-    → gather (form_of d c) n items [] ≡ Some (ts, [])
+    → gather (element_reader d c) n items [] ≡ Some (ts, [])
     → (tree_in (parse (suc depth) bytes) ≡ array (trees_of ts)) × (parse (suc depth) bytes ≡ Some (tree_in (parse (suc depth) bytes), rest))
 array_found depth d n c bytes rest items ts deep some is all =
     let inner : gather (item_of d c) n items [] ≡ Some (ts, []) = ap (λ f. gather f n items []) (sym (form_of_items d c some)) ∙ all in
     found (parse (suc depth) bytes) (array (trees_of ts)) rest (ap (λ z. parse (suc z) bytes) deep ∙ is d ts inner)
 
 -- Entries that are collected are inserted in order.
-inserted_rest : (f : FrameReader) (n : ℕ) (s : List ℕ) (ds ps : List (Tree × Tree)) (r : List ℕ) → collect f n s ≡ Some (ps, r)
+inserted_rest : (f : ValueReader) (n : ℕ) (s : List ℕ) (ds ps : List (Tree × Tree)) (r : List ℕ) → collect f n s ≡ Some (ps, r)
     → insert f n s (pairs_of ds) ≡ Some (pairs_of (fold (λ done e. insert_pair same_tree done e.0 e.1) ds ps), r)
 inserted_rest f zero s ds ps r e =
     let same = some_same {A = List (Tree × Tree) × List ℕ} ([], s) (ps, r) e in
@@ -85,7 +85,7 @@ pub map_found : (depth d n : ℕ) (bytes rest body : List ℕ) (ps : List (Tree 
     → collect (parse (suc d)) n body ≡ Some (ps, []) → AreApart (keys_of ps)
     → (tree_in (parse (suc depth) bytes) ≡ map (pairs_of ps)) × (parse (suc depth) bytes ≡ Some (tree_in (parse (suc depth) bytes), rest))
 map_found depth d n bytes rest body ps deep is all apart =
-    found (parse (suc depth) bytes) (map (pairs_of ps)) rest (parse_frame depth bytes ∙ is (parse depth) (parse_content depth) (pairs_of ps) (all_inserted depth d n body ps deep all apart))
+    found (parse (suc depth) bytes) (map (pairs_of ps)) rest (parse_value depth bytes ∙ is (parse depth) (parse_content depth) (pairs_of ps) (all_inserted depth d n body ps deep all apart))
 
 pub described_found : (depth d c : ℕ) (bytes s r : List ℕ) (e : Descriptor) → depth ≡ suc d → descriptor_at bytes ≡ Some (e, c ∷ s)
     → parse (suc d) (c ∷ s) ≡ Some (tree_in (parse (suc d) (c ∷ s)), r)
@@ -93,42 +93,42 @@ pub described_found : (depth d c : ℕ) (bytes s r : List ℕ) (e : Descriptor) 
 described_found depth d c bytes s r e deep at inner =
     let t = tree_in (parse (suc d) (c ∷ s)) in
     let inside : parse depth (c ∷ s) ≡ Some (t, r) = ap (λ z. parse z (c ∷ s)) deep ∙ inner in
-    found (parse (suc depth) (0 ∷ bytes)) (described e t) r (parse_frame depth (0 ∷ bytes)
+    found (parse (suc depth) (0 ∷ bytes)) (described e t) r (parse_value depth (0 ∷ bytes)
     ∙ ap (λ o. and_then o (parse_described (parse depth))) at
     ∙ ap (λ o. and_then o (λ r. Some (described e r.0, r.1))) inside)
 
 -- The next element.
 pub next_own : (depth c n : ℕ) (s r : List ℕ) (t : Tree) (ts : List Tree) → c ≡ 0 → (n ≡ 0 → ⊥) → parse (suc depth) s ≡ Some (t, r)
-    → gather (form_of depth c) (n - 1) r [] ≡ Some (ts, []) → gather (form_of depth c) n s [] ≡ Some (t ∷ ts, [])
+    → gather (element_reader depth c) (n - 1) r [] ≡ Some (ts, []) → gather (element_reader depth c) n s [] ≡ Some (t ∷ ts, [])
 next_own depth c n s r t ts own some first all =
-    let form : form_of depth c ≡ parse (suc depth) = ap (form_of depth) own in
-    first_gathered (form_of depth c) n s r t ts some (ap (λ f. f s) form ∙ first) all
+    let form : element_reader depth c ≡ parse (suc depth) = ap (element_reader depth) own in
+    first_gathered (element_reader depth c) n s r t ts some (ap (λ f. f s) form ∙ first) all
 
 pub next_item : (depth c n : ℕ) (s r : List ℕ) (t : Tree) (ts : List Tree) → (c ≡ 0 → ⊥) → (n ≡ 0 → ⊥) → parse (suc depth) (c ∷ s) ≡ Some (t, r)
-    → gather (form_of depth c) (n - 1) r [] ≡ Some (ts, []) → gather (form_of depth c) n s [] ≡ Some (t ∷ ts, [])
+    → gather (element_reader depth c) (n - 1) r [] ≡ Some (ts, []) → gather (element_reader depth c) n s [] ≡ Some (t ∷ ts, [])
 next_item depth c n s r t ts of some first all =
-    first_gathered (form_of depth c) n s r t ts some (ap (λ f. f s) (form_of_items depth c of) ∙ first) all
+    first_gathered (element_reader depth c) n s r t ts some (ap (λ f. f s) (form_of_items depth c of) ∙ first) all
 
-pub none_left : (f : FrameReader) (n : ℕ) (s : List ℕ) (ts : List Tree) → n ≡ 0 → gather f n s [] ≡ Some (ts, []) → (ts ≡ []) × (gather f n s [] ≡ Some ([], []))
+pub none_left : (f : ValueReader) (n : ℕ) (s : List ℕ) (ts : List Tree) → n ≡ 0 → gather f n s [] ≡ Some (ts, []) → (ts ≡ []) × (gather f n s [] ≡ Some ([], []))
 none_left f n s ts none e =
     let start : gather f n s [] ≡ Some ([], s) = ap (λ m. gather f m s []) none in
     let same = some_same {A = List Tree × List ℕ} ([], s) (ts, []) (sym start ∙ e) in
     let empty : ts ≡ [] = sym (ap (λ z. z.0) same) in
     (empty, e ∙ ap (λ z. Some (z, [])) empty)
 
-pub no_bytes : {M : Type 0} (depth c n : ℕ) (s : List ℕ) (ts : List Tree) → c ≡ 0 → (n ≡ 0 → ⊥) → s ≡ [] → gather (form_of depth c) n s [] ≡ Some (ts, []) → M
+pub no_bytes : {M : Type 0} (depth c n : ℕ) (s : List ℕ) (ts : List Tree) → c ≡ 0 → (n ≡ 0 → ⊥) → s ≡ [] → gather (element_reader depth c) n s [] ≡ Some (ts, []) → M
 unfolding parse
 no_bytes depth c zero s ts own some empty e = absurd (some refl)
 no_bytes depth c (suc n) s ts own some empty e =
-    let none : gather (form_of depth c) (suc n) s [] ≡ None = rw (own, empty) refl in
+    let none : gather (element_reader depth c) (suc n) s [] ≡ None = rw (own, empty) refl in
     let same : None ≡ Some (ts, []) = sym none ∙ e in
     absurd cc
 
-pub closed : (f : FrameReader) (n : ℕ) (s : List ℕ) → n ≡ 0 → s ≡ [] → gather f n s [] ≡ Some ([], [])
+pub closed : (f : ValueReader) (n : ℕ) (s : List ℕ) → n ≡ 0 → s ≡ [] → gather f n s [] ≡ Some ([], [])
 closed f n s none empty = rw (none, empty) refl
 
 -- The next entry.
-pub pair_collected : (f : FrameReader) (n : ℕ) (s m v : List ℕ) (k t : Tree) (ps : List (Tree × Tree)) → (n ≡ 0 → ⊥) → f s ≡ Some (k, m) → f m ≡ Some (t, v)
+pub pair_collected : (f : ValueReader) (n : ℕ) (s m v : List ℕ) (k t : Tree) (ps : List (Tree × Tree)) → (n ≡ 0 → ⊥) → f s ≡ Some (k, m) → f m ≡ Some (t, v)
     → collect f (n - 1) v ≡ Some (ps, []) → collect f n s ≡ Some ((k, t) ∷ ps, [])
 pair_collected f zero s m v k t ps some key value all = absurd (some refl)
 pair_collected f (suc n) s m v k t ps some key value all =
@@ -138,7 +138,7 @@ pair_collected f (suc n) s m v k t ps some key value all =
     ∙ ap (λ o. and_then o (λ v. and_then (collect f n v.1) (λ q. Some ((k, v.0) ∷ q.0, q.1)))) value
     ∙ ap (λ o. and_then o (λ q. Some ((k, t) ∷ q.0, q.1))) inner
 
-pub none_collected : (f : FrameReader) (n : ℕ) (s : List ℕ) (ps : List (Tree × Tree)) → n ≡ 0 → collect f n s ≡ Some (ps, []) → (ps ≡ []) × (collect f n s ≡ Some ([], []))
+pub none_collected : (f : ValueReader) (n : ℕ) (s : List ℕ) (ps : List (Tree × Tree)) → n ≡ 0 → collect f n s ≡ Some (ps, []) → (ps ≡ []) × (collect f n s ≡ Some ([], []))
 none_collected f n s ps none e =
     let start : collect f n s ≡ Some ([], s) = ap (λ m. collect f m s) none in
     let same = some_same {A = List (Tree × Tree) × List ℕ} ([], s) (ps, []) (sym start ∙ e) in
@@ -153,7 +153,7 @@ no_entry_bytes depth (suc n) s ps some empty e =
     let same : None ≡ Some (ps, []) = sym none ∙ e in
     absurd cc
 
-pub closed_entries : (f : FrameReader) (n : ℕ) (s : List ℕ) → n ≡ 0 → s ≡ [] → collect f n s ≡ Some ([], [])
+pub closed_entries : (f : ValueReader) (n : ℕ) (s : List ℕ) → n ≡ 0 → s ≡ [] → collect f n s ≡ Some ([], [])
 closed_entries f n s none empty = rw (none, empty) refl
 
 -- The names of fields that are found in order.
@@ -189,7 +189,7 @@ null_value d c s e = ap (λ z. tree_in (parse (suc d) (z ∷ s))) e ∙ (scalar_
 pub name_key : (body bytes rest after : List ℕ) (text n : List ℕ) → body ≡ bytes → text ≡ n → rest ≡ after → IsScalar bytes rest (string text)
     → (d : ℕ) → parse (suc d) body ≡ Some (scalar (string n), after)
 name_key body bytes rest after text n whole same next is d =
-    ap (parse (suc d)) whole ∙ parse_frame d bytes ∙ is (parse d) (parse_content d) ∙ ap (λ z. Some (scalar (string z), rest)) same ∙ ap (λ z. Some (scalar (string n), z)) next
+    ap (parse (suc d)) whole ∙ parse_value d bytes ∙ is (parse d) (parse_content d) ∙ ap (λ z. Some (scalar (string z), rest)) same ∙ ap (λ z. Some (scalar (string n), z)) next
 
 pub described_from : (depth d c k : ℕ) (bytes after s r : List ℕ) (e : Descriptor) → c ≡ 0 → depth ≡ suc d → descriptor_at bytes ≡ Some (e, after) → after ≡ k ∷ s
     → parse (suc d) (k ∷ s) ≡ Some (tree_in (parse (suc d) (k ∷ s)), r)
@@ -202,12 +202,12 @@ described_from depth d c k bytes after s r e none deep at whole inner =
 
 -- Elements that were read in one call.
 pub items_filled : {T : Type 0} (R : Tree → T → Type 0) (depth c n : ℕ) (s : List ℕ) (xs : List T) → (c ≡ 0 → ⊥) → Fills R (item_of depth c) n s xs
-    → (ts : List Tree) × (gather (form_of depth c) n s [] ≡ Some (ts, [])) × AllZip R ts xs
+    → (ts : List Tree) × (gather (element_reader depth c) n s [] ≡ Some (ts, [])) × AllZip R ts xs
 items_filled R depth c n s xs some (ts, all, zip) = (ts, ap (λ f. gather f n s []) (form_of_items depth c some) ∙ all, zip)
 
 pub own_filled : {T : Type 0} (R : Tree → T → Type 0) (depth c n : ℕ) (s : List ℕ) (xs : List T) → c ≡ 0 → Fills R (parse (suc depth)) n s xs
-    → (ts : List Tree) × (gather (form_of depth c) n s [] ≡ Some (ts, [])) × AllZip R ts xs
-own_filled R depth c n s xs own (ts, all, zip) = (ts, ap (λ z. gather (form_of depth z) n s []) own ∙ all, zip)
+    → (ts : List Tree) × (gather (element_reader depth c) n s [] ≡ Some (ts, [])) × AllZip R ts xs
+own_filled R depth c n s xs own (ts, all, zip) = (ts, ap (λ z. gather (element_reader depth z) n s []) own ∙ all, zip)
 
 -- What holds holds where there is nothing.
 pub when_none : {A : Type 0} {P : Type 0} (o : Option A) → P → IfNone o P

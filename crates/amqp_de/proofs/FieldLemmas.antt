@@ -2,12 +2,12 @@
 use Rattle.std.proofs.Common.{◌≡◌, ◌⊎◌, inl, inr, ℕ, Bool, true, false, true≢false, List, [], ◌∷◌, Some, None, Result, Ok, Err, IfOk, IfErr, sym, ap, ◌∙◌, subst}
 use Rattle.std.specs.Prelude.{not, ◌&&◌}
 use Rattle.amqp_ser.specs.Tree.{Tree}
-use Rattle.amqp_de.specs.Fields.{FieldSource, by_position, by_name, value_at, without, Perhaps, ReadsField, NoMoreFields}
+use Rattle.amqp_de.specs.Fields.{FieldSource, by_position, by_name, value_at, without, ReadsIfPresent, ReadsField, NoMoreFields}
 use Rattle.amqp_de.specs.Parts.{◌▸◌, ReadsFields, images_of_fields, RestorableFields, SameFields}
 use Rattle.amqp_de.specs.Present.{any_there, present_fields, has_name, distinct_names, EndsEarly}
 use Rattle.amqp_de.specs.Reads.{Always}
-use Rattle.amqp_de.specs.Results.{Reading}
-use Rattle.amqp_de.specs.Steps.{Taken, TakenNamed, TakesField, TakesNamed, Follows}
+use Rattle.amqp_de.specs.Results.{ReadsAndRestores}
+use Rattle.amqp_de.specs.Steps.{ReadsElements, ReadsEntries, TakesField, TakesNamed, Follows}
 use Rattle.amqp_de.specs.declared.fields.FieldValues.{FieldValues}
 use Rattle.amqp_de.proofs.LeftOut.{or_false, not_and, others_distinct, present_value, not_present, rest_there}
 
@@ -47,16 +47,16 @@ module _ {V W : Type 0} (Absent : V → Type 0) (n : List ℕ) (R : Tree → V �
 
   pub named_first : (old : List (Tree × Tree)) (t : Tree) → value_at n old ≡ Some t → ((x : V) → ¬ R t x) → (y : FieldValues V W) → ¬ ReadsFields Absent n R Q y (by_name old)
   unfolding ReadsField
-  named_first old t e none y h = let k : Perhaps Absent R (Some t) y.value = subst (λ o. Perhaps Absent R o y.value) e h.0 in none y.value k
+  named_first old t e none y h = let k : ReadsIfPresent Absent R (Some t) y.value = subst (λ o. ReadsIfPresent Absent R o y.value) e h.0 in none y.value k
 
   pub named_missing : (old : List (Tree × Tree)) → value_at n old ≡ None → ((x : V) → ¬ Absent x) → (y : FieldValues V W) → ¬ ReadsFields Absent n R Q y (by_name old)
   unfolding ReadsField
-  named_missing old e none y h = let k : Perhaps Absent R None y.value = subst (λ o. Perhaps Absent R o y.value) e h.0 in none y.value k
+  named_missing old e none y h = let k : ReadsIfPresent Absent R None y.value = subst (λ o. ReadsIfPresent Absent R o y.value) e h.0 in none y.value k
 
   module _ (present : V → Bool) (image : V → Tree) (P : V → Type 0) (S : V → V → Type 0)
       (images : W → List (Bool × Tree)) (PW : W → Type 0) (SW : W → W → Type 0) (law : (x y : V) → present y ≡ false → Absent x → S x y) where
-    pub field_taken : (old new : List Tree → Type 0) (x : V) (w : W) → ((ts : List Tree) → new ts → TakesField (Reading R image P S) Absent old ts x) → Taken Q images PW SW new w
-        → Taken (ReadsFields Absent n R Q) (images_of_fields present image images) (RestorableFields P PW) (SameFields S SW) old (x ▸ w)
+    pub field_taken : (old new : List Tree → Type 0) (x : V) (w : W) → ((ts : List Tree) → new ts → TakesField (ReadsAndRestores R image P S) Absent old ts x) → ReadsElements Q images PW SW new w
+        → ReadsElements (ReadsFields Absent n R Q) (images_of_fields present image images) (RestorableFields P PW) (SameFields S SW) old (x ▸ w)
     unfolding ReadsField
     field_taken old new x w h (ts, held, reads, kept) =
         elim (h ts held) [
@@ -74,9 +74,9 @@ module _ {V W : Type 0} (Absent : V → Type 0) (n : List ℕ) (R : Tree → V �
 
     pub named_taken : (ns : List (List ℕ)) (needs : Bool → Type 0) (only : List (List ℕ) → List (Tree × Tree) → Type 0) → ((a b : Bool) → needs (a && b) → needs a × needs b) → needs true
         → (old new : List (Tree × Tree) → Type 0) (x : V) (w : W)
-        → ((ps : List (Tree × Tree)) → new ps → (qs : List (Tree × Tree)) × old qs × TakesNamed (Reading R image P S) Absent only needs n qs ps x)
-        → TakenNamed Q ns images PW SW needs only new w
-        → TakenNamed (ReadsFields Absent n R Q) (n ∷ ns) (images_of_fields present image images) (RestorableFields P PW) (SameFields S SW) needs only old (x ▸ w)
+        → ((ps : List (Tree × Tree)) → new ps → (qs : List (Tree × Tree)) × old qs × TakesNamed (ReadsAndRestores R image P S) Absent only needs n qs ps x)
+        → ReadsEntries Q ns images PW SW needs only new w
+        → ReadsEntries (ReadsFields Absent n R Q) (n ∷ ns) (images_of_fields present image images) (RestorableFields P PW) (SameFields S SW) needs only old (x ▸ w)
     unfolding ReadsField
     named_taken ns needs only split enough old new x w h (ps, held, among, reads, kept) =
         let (qs, there, step) = h ps held in
@@ -85,7 +85,7 @@ module _ {V W : Type 0} (Absent : V → Type 0) (n : List ℕ) (R : Tree → V �
             qs,
             there,
             more ns among,
-            λ d. (subst (λ o. Perhaps Absent R o x) (sym at) r.0, subst (λ es. Q w (by_name es)) (sym after) (reads (split (not (has_name n ns)) (distinct_names ns) d).1)),
+            λ d. (subst (λ o. ReadsIfPresent Absent R o x) (sym at) r.0, subst (λ es. Q w (by_name es)) (sym after) (reads (split (not (has_name n ns)) (distinct_names ns) d).1)),
             λ y p d e. (
               r.1 y.value p.0 (present_value n (present y.value) (image y.value) ns (images y.rest) qs t d e at),
               kept y.rest p.1 (others_distinct n ns d) (rest_there n (present y.value) (image y.value) ns (images y.rest) qs ps d e (sym after)),
@@ -98,7 +98,7 @@ module _ {V W : Type 0} (Absent : V → Type 0) (n : List ℕ) (R : Tree → V �
             λ d.
                 let (a, b) = split (not (has_name n ns)) (distinct_names ns) d in
                 let (none, all) = (more ns among).1 a in
-                (subst (λ o. Perhaps Absent R o x) (sym none) absent, subst (λ es. Q w (by_name es)) (sym all) (reads b)),
+                (subst (λ o. ReadsIfPresent Absent R o x) (sym none) absent, subst (λ es. Q w (by_name es)) (sym all) (reads b)),
             λ y p d e.
                 let other : not (has_name n ns) ≡ true = ap not (not_and (has_name n ns) (distinct_names ns) d).0 in
                 let (none, all) = (more ns among).1 (subst needs (sym other) enough) in (
@@ -129,14 +129,14 @@ early_missing f fs old e must k =
 
 -- After the last field.
 pub unit_taken : {F : Type 0} (holds : List Tree → Type 0) (r : Result (Unit {0}) F) → IfOk r (λ _. (ts : List Tree) × holds ts)
-    → IfOk r (Taken {V = Unit {0}} (λ _. NoMoreFields) (λ _. []) Always (λ _ _. Unit {0}) holds)
+    → IfOk r (ReadsElements {V = Unit {0}} (λ _. NoMoreFields) (λ _. []) Always (λ _ _. Unit {0}) holds)
 unfolding NoMoreFields
 unit_taken holds (Ok v) (ts, h) = (ts, h, tt, λ x p k. tt)
 unit_taken holds (Err e) h = tt
 
 pub unit_named : {F : Type 0} (needs : Bool → Type 0) (only : List (List ℕ) → List (Tree × Tree) → Type 0) (holds : List (Tree × Tree) → Type 0) (r : Result (Unit {0}) F)
     → IfOk r (λ _. (ps : List (Tree × Tree)) × holds ps × only [] ps)
-    → IfOk r (TakenNamed {V = Unit {0}} (λ _. NoMoreFields) [] (λ _. []) Always (λ _ _. Unit {0}) needs only holds)
+    → IfOk r (ReadsEntries {V = Unit {0}} (λ _. NoMoreFields) [] (λ _. []) Always (λ _ _. Unit {0}) needs only holds)
 unfolding NoMoreFields
 unit_named needs only holds (Ok v) (ps, h, among) = (ps, h, among, λ d. tt, λ x p d e. tt)
 unit_named needs only holds (Err e) h = tt

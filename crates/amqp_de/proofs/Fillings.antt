@@ -3,16 +3,16 @@ use Rattle.std.proofs.Common.{◌≡◌, ℕ, ◌+◌, ◌-◌, ◌<◌, ◌≤�
 use Rattle.std.specs.List.{AllZip}
 use Rattle.amqp_ser.specs.Tree.{Tree}
 use Rattle.amqp_value.proofs.Zips.{zip_push}
-use Rattle.amqp_decode.specs.Parsed.{FrameReader, gather}
+use Rattle.amqp_decode.specs.Parsed.{ValueReader, gather}
 use Rattle.amqp_decode.proofs.Steps.{gather-and_then}
 use Rattle.amqp_decode.proofs.Whole.{nil-from_length}
 use Rattle.amqp_de.specs.Encodings.{Fills}
 
 -- The elements read so far: the rest gives, after them, all of them.
-abbrev pub Filling : {T : Type 0} → (Tree → T → Type 0) → FrameReader → ℕ → ℕ → List ℕ → List ℕ → List T → Type 0
+abbrev pub Filling : {T : Type 0} → (Tree → T → Type 0) → ValueReader → ℕ → ℕ → List ℕ → List ℕ → List T → Type 0
 Filling R f n i rest body ys = (ts : List Tree) × (gather f (n - i) rest ts ≡ gather f n body []) × AllZip R ts ys
 
-module _ {T : Type 0} (R : Tree → T → Type 0) (f : FrameReader) (n : ℕ) (body : List ℕ) where
+module _ {T : Type 0} (R : Tree → T → Type 0) (f : ValueReader) (n : ℕ) (body : List ℕ) where
   pub filling_none : Filling R f n 0 body body []
   filling_none =
       let all : n - 0 ≡ n = omega arith in

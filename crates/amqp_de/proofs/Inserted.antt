@@ -8,7 +8,7 @@ use Rattle.std.specs.declared.cmp.Ordering.{Ordering}
 use Rattle.std.specs.declared.cmp.Ordering.TheVariants.{Greater}
 use Rattle.amqp_data.specs.Pairs.{insert_pair}
 use Rattle.amqp_value.specs.Converts.{inserted_in_order, inserted_sorted}
-use Rattle.amqp_de.specs.Maps.{SamePair, EachBefore, ForAllSame, AreDistinct, Ascend}
+use Rattle.amqp_de.specs.Maps.{SamePair, EachBefore, ForAllSame, AreDistinct, AreAscending}
 
 all_more : {X : Type 0} (P : X → Type 0) (xs : List X) (x : X) → AllByRecursion P xs → P x → AllByRecursion P (xs ++ x ∷ [])
 all_more P [] x all p = (p, tt)
@@ -77,7 +77,7 @@ module _ {K V : Type 0} (S : K → K → Type 0) (U : V → V → Type 0) where
       let each = each_before S U (λ x y. eq y x ≡ false) ys xs zip apart in
       rw (is ∙ distinct_inserted eq ys each) zip
 
-  pub restored_sorted : (cmp : K → K → Ordering) (es ys xs : List (K × V)) → AllZip (SamePair S U) ys xs → Ascend S cmp (keys_of xs) → es ≡ inserted_sorted cmp ys → AllZip (SamePair S U) es xs
+  pub restored_sorted : (cmp : K → K → Ordering) (es ys xs : List (K × V)) → AllZip (SamePair S U) ys xs → AreAscending S cmp (keys_of xs) → es ≡ inserted_sorted cmp ys → AllZip (SamePair S U) es xs
   restored_sorted cmp es ys xs zip apart is =
       let each = each_before S U (λ x y. cmp y x ≡ Greater) ys xs zip apart in
       rw (is ∙ ascending_inserted cmp ys each) zip

@@ -9,7 +9,7 @@ use Rattle.std.specs.Ordering.{nat_cmp, ordering_reverse}
 use Rattle.std.specs.declared.cmp.Ordering.{Ordering}
 use Rattle.std.specs.declared.cmp.Ordering.TheVariants.{Less, Equal, Greater}
 use Rattle.amqp_data.specs.Pairs as pairs
-use Rattle.amqp_de.specs.Maps.{ForAllSame, AreDistinct, Ascend}
+use Rattle.amqp_de.specs.Maps.{ForAllSame, AreDistinct, AreAscending}
 
 module _ {K : Type 0} (S : K → K → Type 0) where
   -- If `R` implies that `Q` relates all keys with the same contents, and `R` relates `k` to each of
@@ -45,7 +45,7 @@ module _ {K : Type 0} (S : K → K → Type 0) where
     all_above : (k : K) (ks : List K) → AllByRecursion (λ l. cmp k l ≡ Less) ks → AllByRecursion (ForAllSame S (λ x y. cmp y x ≡ Greater) k) ks
     all_above = all_so (λ k l. cmp k l ≡ Less) (λ x y. cmp y x ≡ Greater) above
 
-    pub ascending : (ks : List K) → IsStrictlySortedBy cmp ks → Ascend S cmp ks
+    pub ascending : (ks : List K) → IsStrictlySortedBy cmp ks → AreAscending S cmp ks
     unfolding IsStrictlySortedBy
     ascending [] all = tt
     ascending (k ∷ ks) all = (all_above k ks all.0, ascending ks all.1)

@@ -11,7 +11,7 @@ use Rattle.amqp_wire.specs.LazyOf.{IsLazyOf}
 use Rattle.amqp_wire.proofs.LazyRoot.{refused_writable}
 use Rattle.amqp_de.specs.Reads.{ReadsLazy}
 use Rattle.amqp_de.specs.Results.{IsMemory, kind_of}
-use Rattle.amqp_de.specs.Spelled.{kind_for}
+use Rattle.amqp_de.specs.FromBytes.{kind_for}
 use Rattle.amqp_de.specs.declared.fault.Fault.{Fault}
 
 -- An error other than out of memory contradicts that the tree is writable.

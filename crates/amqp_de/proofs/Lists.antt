@@ -8,7 +8,7 @@ use Rattle.amqp_value.specs.TreeOf.{pairs_of}
 use Rattle.amqp_de.specs.Fields.{FieldSource, by_position, by_name, OnFields, OnEntries, OnDescribed}
 use Rattle.amqp_de.specs.Maps.{OnMap}
 use Rattle.amqp_de.specs.Reads.{OnList, OnArray}
-use Rattle.amqp_de.specs.Results.{Reading}
+use Rattle.amqp_de.specs.Results.{ReadsAndRestores}
 use Rattle.amqp_de.specs.Values.{elements_in, entries_in}
 use Rattle.amqp_de.proofs.Loops.{zip_reads}
 
@@ -159,8 +159,8 @@ pub inner_same : (t u v : Tree) (d e : Descriptor) → t ≡ tree.described e u 
 inner_same t u v d e p q = let a : e ≡ d = cc in let b : u ≡ v = cc in (a, b)
 
 module _ {T : Type 0} (R : Tree → T → Type 0) (image : T → Tree) (P : T → Type 0) (S : T → T → Type 0) where
-  pub list_reads : (t : Tree) (ts : List Tree) (xs : List T) → t ≡ tree.list (trees_of ts) → AllZip (Reading R image P S) ts xs → OnList (λ us. AllZip R us xs) t
+  pub list_reads : (t : Tree) (ts : List Tree) (xs : List T) → t ≡ tree.list (trees_of ts) → AllZip (ReadsAndRestores R image P S) ts xs → OnList (λ us. AllZip R us xs) t
   list_reads t ts xs e zip = to_list (λ us. AllZip R us xs) t ts e (zip_reads R image P S ts xs zip)
 
-  pub array_reads : (t : Tree) (ts : List Tree) (xs : List T) → t ≡ tree.array (trees_of ts) → AllZip (Reading R image P S) ts xs → OnArray (λ us. AllZip R us xs) t
+  pub array_reads : (t : Tree) (ts : List Tree) (xs : List T) → t ≡ tree.array (trees_of ts) → AllZip (ReadsAndRestores R image P S) ts xs → OnArray (λ us. AllZip R us xs) t
   array_reads t ts xs e zip = to_array (λ us. AllZip R us xs) t ts e (zip_reads R image P S ts xs zip)

@@ -4,7 +4,7 @@ use Rattle.std.specs.List.{AllZip, AllByRecursion}
 use Rattle.amqp_de.specs.Reads.{Always}
 use Rattle.amqp_ser.specs.Tree.{Tree, Trees, Pairs, Scalar, scalar, trees_of, no_trees, more, no_pairs, pair}
 use Rattle.amqp_value.specs.TreeOf.{pairs_of}
-use Rattle.amqp_de.specs.Results.{Reading}
+use Rattle.amqp_de.specs.Results.{ReadsAndRestores}
 use Rattle.amqp_de.specs.Values.{elements_in, entries_in}
 
 module _ {A T : Type 0} (R : A → T → Type 0) where
@@ -31,13 +31,13 @@ pairs_of_entries no_pairs = refl
 pairs_of_entries (pair k v ps) = ap (λ qs. pair k v qs) (pairs_of_entries ps)
 
 module _ {T : Type 0} (reads : Tree → T → Type 0) (image : T → Tree) (P : T → Type 0) (S : T → T → Type 0) where
-  pub zip_reads : (ts : List Tree) (xs : List T) → AllZip (Reading reads image P S) ts xs → AllZip reads ts xs
+  pub zip_reads : (ts : List Tree) (xs : List T) → AllZip (ReadsAndRestores reads image P S) ts xs → AllZip reads ts xs
   zip_reads [] [] h = tt
   zip_reads [] (x ∷ xs) h = absurd h
   zip_reads (t ∷ ts) [] h = absurd h
   zip_reads (t ∷ ts) (x ∷ xs) h = (h.0.0, zip_reads ts xs h.1)
 
-  pub zip_same : (ts : List Tree) (ys xs : List T) → AllZip (Reading reads image P S) ts ys → AllByRecursion P xs → ts ≡ map image xs → AllZip S ys xs
+  pub zip_same : (ts : List Tree) (ys xs : List T) → AllZip (ReadsAndRestores reads image P S) ts ys → AllByRecursion P xs → ts ≡ map image xs → AllZip S ys xs
   zip_same [] [] [] h all p = tt
   zip_same [] [] (x ∷ xs) h all p = absurd (cc)
   zip_same [] (y ∷ ys) xs h all p = absurd h
@@ -54,7 +54,7 @@ module _ {A : Type 0} (kind : A → Scalar) where
   Leaf t x = t ≡ scalar (kind x)
 
   abbrev pub ReadingLeaf : Tree → A → Type 0
-  ReadingLeaf = Reading Leaf (λ x. scalar (kind x)) Always (λ x y. x ≡ y)
+  ReadingLeaf = ReadsAndRestores Leaf (λ x. scalar (kind x)) Always (λ x y. x ≡ y)
 
   module _ (told : (a b : A) → kind a ≡ kind b → a ≡ b) where
     leaf_read : (t : Tree) (x : A) → Leaf t x → ReadingLeaf t x

@@ -12,7 +12,7 @@ use Rattle.amqp_value.proofs.Sameness.{equal, equal-is_same}
 use Rattle.amqp_value.specs.Image.{insert_tree}
 use Rattle.amqp_value.specs.TreeOf.{pairs_of, tree_of}
 use Rattle.amqp_value.specs.declared.value.Value.{Value}
-use Rattle.amqp_de.specs.Results.{Reading}
+use Rattle.amqp_de.specs.Results.{ReadsAndRestores}
 use Rattle.amqp_de.specs.Maps.{AreApart, OnMap, ReadsPair, ReadsPairs, pair_image, IsPair, SamePair, EachBefore}
 use Rattle.amqp_de.proofs.Lists.{entries_in_pairs, same_pairs}
 
@@ -59,7 +59,7 @@ apart_entries (t ∷ ts) apart = (apart_entry t ts apart.0, apart_entries ts apa
 module _ {K V : Type 0} (RK : Tree → K → Type 0) (imageK : K → Tree) (PK : K → Type 0) (SK : K → K → Type 0)
     (RV : Tree → V → Type 0) (imageV : V → Tree) (PV : V → Type 0) (SV : V → V → Type 0) where
   abbrev pub ReadingPair : Tree × Tree → K × V → Type 0
-  ReadingPair = ReadsPair (Reading RK imageK PK SK) (Reading RV imageV PV SV)
+  ReadingPair = ReadsPair (ReadsAndRestores RK imageK PK SK) (ReadsAndRestores RV imageV PV SV)
 
   pub pairs_read : (ts : List (Tree × Tree)) (ps : List (K × V)) → AllZip ReadingPair ts ps → AllZip (ReadsPair RK RV) ts ps
   pairs_read [] [] zip = tt

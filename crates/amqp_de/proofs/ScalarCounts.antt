@@ -6,19 +6,19 @@ use Rattle.amqp_frame.specs.Code.{category}
 use Rattle.amqp_ser.specs.Tree as tree
 use Rattle.amqp_ser.specs.Tree.{Tree, Scalar, Descriptor, Pairs, scalar, described, trees_of, no_pairs}
 use Rattle.amqp_decode.specs.Codes.{primitive_of, shape_of_code}
-use Rattle.amqp_decode.specs.Parsed.{FrameReader, ContentReader, all, content_at, content_in, content_of, counted_in, descriptor_at, frame_in, gather, insert, items_in, parse, parse_array, parse_content, parse_described, parse_list, parse_map, payload_in, with_rest}
+use Rattle.amqp_decode.specs.Parsed.{ValueReader, ContentReader, all, content_at, content_in, content_of, counted_in, descriptor_at, value_in_bytes, gather, insert, items_in, parse, parse_array, parse_content, parse_described, parse_list, parse_map, payload_in, with_rest}
 use Rattle.amqp_decode.specs.Scalars.{and_then}
-use Rattle.amqp_decode.specs.WithoutBytes.{Counter, ContentCounter, if_read, in_payload, in_shape, in_content, in_frame, elements_without_bytes, content_without_bytes}
+use Rattle.amqp_decode.specs.WithoutBytes.{Counter, ContentCounter, if_read, in_payload, in_shape, in_content, counted_in_value, elements_without_bytes, content_without_bytes}
 use Rattle.amqp_decode.specs.declared.payload_shape.PayloadShape.{PayloadShape}
 use Rattle.amqp_decode.specs.declared.payload_shape.PayloadShape.TheVariants as shape
-use Rattle.amqp_decode.proofs.Levels.{both, parse_frame, some_same}
+use Rattle.amqp_decode.proofs.Levels.{both, parse_value, some_same}
 
 no_map : (b : Bool) (o : Option Pairs) (x : Scalar) → (if b then and_then o (λ ps. Some (tree.map ps)) else None) ≡ Some (scalar x) → ⊥
 no_map true None x e = absurd cc
 no_map true (Some ps) x e = absurd cc
 no_map false o x e = absurd cc
 
-module _ (c : Counter) (f : FrameReader) (k : ContentCounter) (h : ContentReader) where
+module _ (c : Counter) (f : ValueReader) (k : ContentCounter) (h : ContentReader) where
   scalar_shape : (p : PayloadShape) (code : EncodingCodes) (s : List ℕ) (x : Scalar) → content_in f h p code s ≡ Some (scalar x) → in_shape c f k h p s ≡ 0
   scalar_shape shape.Described code s x e = refl
   scalar_shape shape.Scalar code s x e = refl
@@ -64,15 +64,15 @@ module _ (c : Counter) (f : FrameReader) (k : ContentCounter) (h : ContentReader
     by_test b true e = by_descriptor (descriptor_at s) e
     by_test b false e = by_code (primitive_of b) e
 
-  scalar_frame : (s r : List ℕ) (x : Scalar) → frame_in f h s ≡ Some (scalar x, r) → in_frame c f k h s ≡ 0
-  scalar_frame [] r x e = refl
-  scalar_frame (b ∷ s) r x e = by_test s r x b (b == 0) e
+  scalar_is_encoded : (s r : List ℕ) (x : Scalar) → value_in_bytes f h s ≡ Some (scalar x, r) → counted_in_value c f k h s ≡ 0
+  scalar_is_encoded [] r x e = refl
+  scalar_is_encoded (b ∷ s) r x e = by_test s r x b (b == 0) e
 
 -- The number in a value, with one level more.
-pub count_frame : (d : ℕ) (s : List ℕ) → elements_without_bytes (suc d) s ≡ in_frame (elements_without_bytes d) (parse d) (content_without_bytes d) (parse_content d) s
+pub count_value : (d : ℕ) (s : List ℕ) → elements_without_bytes (suc d) s ≡ counted_in_value (elements_without_bytes d) (parse d) (content_without_bytes d) (parse_content d) s
 unfolding elements_without_bytes content_without_bytes
-count_frame d s = refl
+count_value d s = refl
 
 pub scalar_none : (d : ℕ) (s r : List ℕ) (x : Scalar) → parse (suc d) s ≡ Some (scalar x, r) → elements_without_bytes (suc d) s ≡ 0
 scalar_none d s r x e =
-    count_frame d s ∙ scalar_frame (elements_without_bytes d) (parse d) (content_without_bytes d) (parse_content d) s r x (sym (parse_frame d s) ∙ e)
+    count_value d s ∙ scalar_is_encoded (elements_without_bytes d) (parse d) (content_without_bytes d) (parse_content d) s r x (sym (parse_value d s) ∙ e)

@@ -1,7 +1,7 @@
 -- The trees of encoded bytes that are a source, and of their parts.
 use Rattle.std.specs.Prelude.{◌≡◌, ℕ, suc, ◌*◌, Bool, List, [], ◌∷◌, Option, Some, None, ◌==◌, if◌then◌else◌}
 use Rattle.amqp_ser.specs.Tree.{Tree, scalar, null}
-use Rattle.amqp_decode.specs.Parsed.{FrameReader, gather, parse}
+use Rattle.amqp_decode.specs.Parsed.{ValueReader, gather, parse}
 use Rattle.amqp_decode.specs.Prefix.{item_of}
 use Rattle.amqp_decode.specs.WithoutBytes.{Counter, elements_without_bytes, sum_of}
 use Rattle.amqp_de.specs.Encodings.{collect}
@@ -25,18 +25,18 @@ IsFirst c rest =
     × (elements_without_bytes (suc c.depth) (c.code ∷ c.bytes.now) ≡ 0)
 
 -- The form of the elements of a list, which have codes of their own, and of an array.
-abbrev pub form_of : ℕ → ℕ → FrameReader
-form_of depth constructor = if constructor == 0 then parse (suc depth) else item_of depth constructor
+abbrev pub element_reader : ℕ → ℕ → ValueReader
+element_reader depth constructor = if constructor == 0 then parse (suc depth) else item_of depth constructor
 
 -- The array elements without bytes in an element of this form.
-abbrev pub count_of : ℕ → ℕ → Counter
-count_of depth constructor = if constructor == 0 then elements_without_bytes (suc depth) else (λ s. elements_without_bytes (suc depth) (constructor ∷ s))
+abbrev pub element_counter : ℕ → ℕ → Counter
+element_counter depth constructor = if constructor == 0 then elements_without_bytes (suc depth) else (λ s. elements_without_bytes (suc depth) (constructor ∷ s))
 
 -- The elements fill the bytes, and have no array elements without bytes.
 abbrev pub HoldsElements : EncodedElements → List ℕ → List Tree → Type 0
 HoldsElements es bytes ts =
-    (gather (form_of es.depth es.constructor) es.left bytes [] ≡ Some (ts, []))
-    × (sum_of (count_of es.depth es.constructor) (form_of es.depth es.constructor) es.left bytes ≡ 0)
+    (gather (element_reader es.depth es.constructor) es.left bytes [] ≡ Some (ts, []))
+    × (sum_of (element_counter es.depth es.constructor) (element_reader es.depth es.constructor) es.left bytes ≡ 0)
 
 -- The entries fill the bytes, and have no array elements without bytes.
 abbrev pub HoldsEntries : EncodedEntries → List ℕ → List (Tree × Tree) → Type 0

@@ -5,7 +5,7 @@ use Rattle.amqp_ser.specs.Tree.{Scalar, uint, Tree, scalar, list, map}
 use Rattle.amqp_value.specs.Image.{variant_map}
 use Rattle.amqp_value.specs.TreeOf.{tree_of}
 use Rattle.amqp_value.specs.declared.value.Value.{Value}
-use Rattle.amqp_de.specs.Fields.{There}
+use Rattle.amqp_de.specs.Fields.{ReadsPresent}
 use Rattle.amqp_de.specs.Results.{IsMemory}
 use Rattle.amqp_de.specs.Values.{elements_in, entries_in}
 use Rattle.amqp_de.specs.declared.branches.Either.{Either}
@@ -27,24 +27,24 @@ index_of_tree (scalar s) = index_of_scalar s
 index_of_tree t = None
 
 -- What is read at an index. Without an index, nothing is read.
-abbrev pub AtIndex : {V : Type 0} → (ℕ → Option Tree → V → Type 0) → Option ℕ → Option Tree → V → Type 0
-AtIndex K None d x = ⊥
-AtIndex K (Some n) d x = K n d x
+abbrev pub ReadsAtIndex : {V : Type 0} → (ℕ → Option Tree → V → Type 0) → Option ℕ → Option Tree → V → Type 0
+ReadsAtIndex K None d x = ⊥
+ReadsAtIndex K (Some n) d x = K n d x
 
 -- A list has the index and then the value. Further elements are ignored.
 abbrev pub OnListed : {V : Type 0} → (ℕ → Option Tree → V → Type 0) → List Tree → V → Type 0
 OnListed K [] x = ⊥
-OnListed K (t ∷ ts) x = AtIndex K (index_of_tree t) (first ts) x
+OnListed K (t ∷ ts) x = ReadsAtIndex K (index_of_tree t) (first ts) x
 
 -- A map has one pair, from the index to the value.
 abbrev pub OnKeyed : {V : Type 0} → (ℕ → Option Tree → V → Type 0) → List (Tree × Tree) → V → Type 0
 OnKeyed K [] x = ⊥
-OnKeyed K (e ∷ []) x = AtIndex K (index_of_tree e.0) (Some e.1) x
+OnKeyed K (e ∷ []) x = ReadsAtIndex K (index_of_tree e.0) (Some e.1) x
 OnKeyed K (e ∷ f ∷ es) x = ⊥
 
 -- An enum is an index, a list or a map.
 unfoldable pub OnEnum : {V : Type 0} → (ℕ → Option Tree → V → Type 0) → Tree → V → Type 0
-OnEnum K (scalar s) x = AtIndex K (index_of_scalar s) None x
+OnEnum K (scalar s) x = ReadsAtIndex K (index_of_scalar s) None x
 OnEnum K (list ts) x = OnListed K (elements_in ts) x
 OnEnum K (map ps) x = OnKeyed K (entries_in ps) x
 OnEnum K t x = ⊥
@@ -56,7 +56,7 @@ IsUnitVariant K n d (Other y) = (1 ≤ n) × K (n - 1) d y
 
 -- A variant with a value, and the variants after it.
 abbrev pub IsDataVariant : {T R : Type 0} → (Tree → T → Type 0) → (ℕ → Option Tree → R → Type 0) → ℕ → Option Tree → Either T R → Type 0
-IsDataVariant R K n d (This x) = (n ≡ 0) × There R d x
+IsDataVariant R K n d (This x) = (n ≡ 0) × ReadsPresent R d x
 IsDataVariant R K n d (Other y) = (1 ≤ n) × K (n - 1) d y
 
 -- No more variants.
@@ -96,9 +96,9 @@ value_of tree None = None
 value_of tree (Some d) = Some (tree d)
 
 -- A variant that satisfies `P`, or an error that is out of memory unless no variant satisfies it.
-abbrev pub Variant : {V : Type 0} → (V → Type 0) → Result V Fault → Type 0
-Variant P (Ok x) = P x
-Variant {V} P (Err e) = IsMemory e ⊎ ((x : V) → ¬ P x)
+abbrev pub ReturnsVariant : {V : Type 0} → (V → Type 0) → Result V Fault → Type 0
+ReturnsVariant P (Ok x) = P x
+ReturnsVariant {V} P (Err e) = IsMemory e ⊎ ((x : V) → ¬ P x)
 
 -- The trees of a key and a value.
 abbrev pub trees_of_pair : Value × Value → Tree × Tree

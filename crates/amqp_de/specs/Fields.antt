@@ -31,20 +31,20 @@ pub data FieldSource : Type 0 where
   by_name : List (Tree × Tree) → FieldSource
 
 -- A required value is present and is read.
-abbrev pub There : {T : Type 0} → (Tree → T → Type 0) → Option Tree → T → Type 0
-There R None x = ⊥
-There R (Some t) x = R t x
+abbrev pub ReadsPresent : {T : Type 0} → (Tree → T → Type 0) → Option Tree → T → Type 0
+ReadsPresent R None x = ⊥
+ReadsPresent R (Some t) x = R t x
 
 -- A field is read from its value, and `Absent` holds for what is read if there is none.
-abbrev pub Perhaps : {T : Type 0} → (T → Type 0) → (Tree → T → Type 0) → Option Tree → T → Type 0
-Perhaps Absent R None x = Absent x
-Perhaps Absent R (Some t) x = R t x
+abbrev pub ReadsIfPresent : {T : Type 0} → (T → Type 0) → (Tree → T → Type 0) → Option Tree → T → Type 0
+ReadsIfPresent Absent R None x = Absent x
+ReadsIfPresent Absent R (Some t) x = R t x
 
 -- A field, and the fields after it.
 unfoldable pub ReadsField : {T : Type 0} → (T → Type 0) → List ℕ → (Tree → T → Type 0) → T → (FieldSource → Type 0) → FieldSource → Type 0
 ReadsField Absent n R x K (by_position []) = Absent x × K (by_position [])
 ReadsField Absent n R x K (by_position (t ∷ ts)) = R t x × K (by_position ts)
-ReadsField Absent n R x K (by_name es) = Perhaps Absent R (value_at n es) x × K (by_name (without n es))
+ReadsField Absent n R x K (by_name es) = ReadsIfPresent Absent R (value_at n es) x × K (by_name (without n es))
 
 -- A required field, and the fields after it.
 abbrev pub ReadsRequired : {T : Type 0} → List ℕ → (Tree → T → Type 0) → T → (FieldSource → Type 0) → FieldSource → Type 0

@@ -1,7 +1,7 @@
 -- How a type is read, in one record, and the same for a type that is built from parts.
 use Rattle.std.specs.Prelude.{◌≡◌, ℕ, List, [], ◌∷◌}
 use Rattle.amqp_ser.specs.Tree.{Scalar, Tree, code, described, scalar, string, symbol}
-use Rattle.amqp_de.specs.Texts.{plain}
+use Rattle.amqp_de.specs.Texts.{short_ascii}
 use Rattle.amqp_de.specs.Composites.{OnComposite}
 use Rattle.amqp_de.specs.Reads.{Always}
 
@@ -39,13 +39,13 @@ other_names (n ∷ ns) = ns
 abbrev pub by_image : {T : Type 0} → (T → Tree) → Laws T
 by_image image = record { reads = λ t x. t ≡ image x; image = image; restorable = Always; same = λ x y. x ≡ y }
 
--- Each value is read from the symbol with its text, which is plain.
+-- Each value is read from the symbol with its text, which is short and ASCII.
 abbrev pub by_text : {T : Type 0} → (T → List ℕ) → Laws T
-by_text text = by_image (λ x. scalar (symbol (plain (text x))))
+by_text text = by_image (λ x. scalar (symbol (short_ascii (text x))))
 
 -- The same for strings.
 abbrev pub by_string : {T : Type 0} → (T → List ℕ) → Laws T
-by_string text = by_image (λ x. scalar (string (plain (text x))))
+by_string text = by_image (λ x. scalar (string (short_ascii (text x))))
 
 -- Each value is read from one scalar alone, and has the contents of all values with this scalar.
 abbrev pub by_scalar : {T : Type 0} → (T → Scalar) → Laws T

@@ -57,8 +57,8 @@ abbrev pub AreDistinct : {K : Type 0} → (K → K → Type 0) → (K → K → 
 AreDistinct S eq = EachBefore (ForAllSame S (λ x y. eq y x ≡ false))
 
 -- The keys strictly ascend, even if they are replaced by keys with the same contents.
-abbrev pub Ascend : {K : Type 0} → (K → K → Type 0) → (K → K → Ordering) → List K → Type 0
-Ascend S cmp = EachBefore (ForAllSame S (λ x y. cmp y x ≡ Greater))
+abbrev pub AreAscending : {K : Type 0} → (K → K → Type 0) → (K → K → Ordering) → List K → Type 0
+AreAscending S cmp = EachBefore (ForAllSame S (λ x y. cmp y x ≡ Greater))
 
 -- No two of the trees are equal.
 abbrev pub AreApart : List Tree → Type 0

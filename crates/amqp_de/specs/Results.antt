@@ -37,8 +37,8 @@ abbrev pub BringsAll : {T : Type 0} → (T → Tree) → (T → Type 0) → (T �
 BringsAll {T} image P S t whole r = (x : T) → P x → t ≡ image x → MatchResult r (λ y. S y x) (λ e. whole → IsMemory e)
 
 -- The tree is read as the value, and `same` holds for it and each restorable value with this image.
-abbrev pub Reading : {T : Type 0} → (Tree → T → Type 0) → (T → Tree) → (T → Type 0) → (T → T → Type 0) → Tree → T → Type 0
-Reading {T} reads image restorable same t y = reads t y × ((x : T) → restorable x → t ≡ image x → same y x)
+abbrev pub ReadsAndRestores : {T : Type 0} → (Tree → T → Type 0) → (T → Tree) → (T → Type 0) → (T → T → Type 0) → Tree → T → Type 0
+ReadsAndRestores {T} reads image restorable same t y = reads t y × ((x : T) → restorable x → t ≡ image x → same y x)
 
 -- Like `Brings`, after a descriptor.
 abbrev pub BringsBranch : {T R : Type 0} → (T → Descriptor) → (T → Tree) → (T → Type 0) → (T → T → Type 0) → Descriptor → Tree → Type 0 → Result (T × R) Fault → Type 0

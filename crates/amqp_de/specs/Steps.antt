@@ -6,8 +6,8 @@ use Rattle.amqp_de.specs.Present.{EndsEarly, has_name, distinct_names, present_f
 
 -- What is held as elements is read as the fields v, and `same` holds for v and all restorable fields with
 -- these images, of which absent ones may be left out at the end.
-abbrev pub Taken : {V : Type 0} → (V → FieldSource → Type 0) → (V → List (Bool × Tree)) → (V → Type 0) → (V → V → Type 0) → (List Tree → Type 0) → V → Type 0
-Taken {V} reads images P S holds v = (ts : List Tree) × holds ts × reads v (by_position ts) × ((x : V) → P x → EndsEarly (images x) ts → S v x)
+abbrev pub ReadsElements : {V : Type 0} → (V → FieldSource → Type 0) → (V → List (Bool × Tree)) → (V → Type 0) → (V → V → Type 0) → (List Tree → Type 0) → V → Type 0
+ReadsElements {V} reads images P S holds v = (ts : List Tree) × holds ts × reads v (by_position ts) × ((x : V) → P x → EndsEarly (images x) ts → S v x)
 
 -- The field is read from an element before those that are left; or it is absent, and nothing is left.
 abbrev pub TakesField : {T : Type 0} → (Tree → T → Type 0) → (T → Type 0) → (List Tree → Type 0) → List Tree → T → Type 0
@@ -42,7 +42,7 @@ RefusesNamed Refused must n old = ((t : Tree) × (value_at n old ≡ Some t) × 
 
 -- What is held as entries is read as the fields v, by their names, if these are distinct as far as it is needed,
 -- and `same` holds for v and all restorable fields with these entries.
-abbrev pub TakenNamed : {V : Type 0} → (V → FieldSource → Type 0) → List (List ℕ) → (V → List (Bool × Tree)) → (V → Type 0) → (V → V → Type 0) → (Bool → Type 0) → (List (List ℕ) → List (Tree × Tree) → Type 0) → (List (Tree × Tree) → Type 0) → V → Type 0
-TakenNamed {V} reads names images P S needs only holds v =
+abbrev pub ReadsEntries : {V : Type 0} → (V → FieldSource → Type 0) → List (List ℕ) → (V → List (Bool × Tree)) → (V → Type 0) → (V → V → Type 0) → (Bool → Type 0) → (List (List ℕ) → List (Tree × Tree) → Type 0) → (List (Tree × Tree) → Type 0) → V → Type 0
+ReadsEntries {V} reads names images P S needs only holds v =
     (ps : List (Tree × Tree)) × holds ps × only names ps × (needs (distinct_names names) → reads v (by_name ps))
     × ((x : V) → P x → distinct_names names ≡ true → ps ≡ present_fields names (images x) → S v x)

@@ -3,14 +3,14 @@
 ghost use Rattle.std.specs.Prelude.{◌≡◌, ◌⊎◌, true, IfOk, IfErr, MatchResult};
 ghost use Rattle.amqp_ser.specs.Tree.{Trees, list, array, trees_of};
 ghost use Rattle.amqp_de.specs.Fields.{OnNamed};
-ghost use Rattle.amqp_de.specs.Forms.{form_of};
+ghost use Rattle.amqp_de.specs.SourceKinds.{source_kind_of};
 ghost use Rattle.amqp_de.specs.Present.{IsImage, all_images, short_list, short_map, distinct_names};
 ghost use Rattle.amqp_de.specs.Results.{IsMemory, Takes};
-ghost use Rattle.amqp_de.specs.declared.form.Form.TheVariants as form;
+ghost use Rattle.amqp_de.specs.declared.source_kind.SourceKind.TheVariants as form;
 
 use crate::fault::Fault;
 use crate::fields::FieldSeeds;
-use crate::form::{Form, form_of};
+use crate::source_kind::{SourceKind, source_kind_of};
 use crate::held_parts::Held;
 use crate::named_fields::NamedFields;
 use crate::seed::Seed;
@@ -40,7 +40,7 @@ where
     ghost fits = { λ ns. distinct_names ns ≡ true };
 
     ghost laws = { λ ns. record {
-      reads = λ t x. OnNamed (F.named ns x) t;
+      reads = λ t x. OnNamed (F.reads_by_names ns x) t;
       image = λ x. short_list (F.images x);
       restorable = F.restorable;
       same = F.same;
@@ -68,7 +68,7 @@ where
     ghost fits = { λ ns. distinct_names ns ≡ true };
 
     ghost laws = { λ ns. record {
-      reads = λ t x. OnNamed (F.named ns x) t;
+      reads = λ t x. OnNamed (F.reads_by_names ns x) t;
       image = λ x. list (trees_of (all_images (F.images x)));
       restorable = F.restorable;
       same = F.same;
@@ -96,7 +96,7 @@ where
     ghost fits = { λ ns. distinct_names ns ≡ true };
 
     ghost laws = { λ ns. record {
-      reads = λ t x. OnNamed (F.named ns x) t;
+      reads = λ t x. OnNamed (F.reads_by_names ns x) t;
       image = λ x. short_map ns (F.images x);
       restorable = F.restorable;
       same = F.same;
@@ -128,14 +128,14 @@ where
         IsImage (F.names fields) (F.images x) (S.value source) →
         MatchResult result (λ y. F.same y.0 x) (λ e. S.is_whole source → IsMemory e) }
 {
-    match source.looks() {
-        Form::Other => {
+    match source.source_kind() {
+        SourceKind::Other => {
             let (value, rest) = match source.untyped(alloc) {
                 Ok(read) => read,
                 Err(fault) => return Err(fault),
             };
             let found = value.kind();
-            match read_as::<F, Held>(alloc, fields, form_of(&value), Held { value }) {
+            match read_as::<F, Held>(alloc, fields, source_kind_of(&value), Held { value }) {
                 Ok(read) => Ok((read.0, rest)),
                 Err(fault) => Err(fault.in_value(found)),
             }
@@ -151,40 +151,40 @@ where
 fn read_as<F: FieldSeeds + Drop, S: Source>(
     alloc: Global,
     fields: F,
-    form: Form,
+    form: SourceKind,
     source: S,
 ) -> Result<(F::Values, S::Rest), Fault>
 where
     F::Values: Drop,
     requires { distinct_names (F.names fields) ≡ true }
-    ensures read { (S.is_whole source → form ≡ form_of (S.value source)) →
+    ensures read { (S.is_whole source → form ≡ source_kind_of (S.value source)) →
         Takes (λ t x. OnNamed (F.reads fields x) t) (S.value source) (S.is_whole source)
         (S.left source) result }
-    ensures law { (S.is_whole source → form ≡ form_of (S.value source)) →
+    ensures law { (S.is_whole source → form ≡ source_kind_of (S.value source)) →
         (x : F.Values) → F.restorable x →
         IsImage (F.names fields) (F.images x) (S.value source) →
         MatchResult result (λ y. F.same y.0 x) (λ e. S.is_whole source → IsMemory e) }
 {
     match form {
-        Form::List => match ListOf(fields).read(alloc, source) {
+        SourceKind::List => match ListOf(fields).read(alloc, source) {
             Ok(read) => Ok(read),
             Err(fault) => Err(fault),
         },
-        Form::Array => match read_array::<F, S>(alloc, fields, source) {
+        SourceKind::Array => match read_array_fields::<F, S>(alloc, fields, source) {
             Ok(read) => Ok(read),
             Err(fault) => Err(fault),
         },
-        Form::Map => match MapOf(fields).read(alloc, source) {
+        SourceKind::Map => match MapOf(fields).read(alloc, source) {
             Ok(read) => Ok(read),
             Err(fault) => Err(fault),
         },
-        Form::Uint => Err(Fault::other(None, ValueKind::Uint)),
-        Form::Other => Err(Fault::invalid()),
+        SourceKind::Uint => Err(Fault::other(None, ValueKind::Uint)),
+        SourceKind::Other => Err(Fault::invalid()),
     }
 }
 
 // Reads fields from an array.
-fn read_array<F: FieldSeeds + Drop, S: Source>(
+fn read_array_fields<F: FieldSeeds + Drop, S: Source>(
     alloc: Global,
     fields: F,
     source: S,
@@ -194,7 +194,7 @@ where
     ensures read { IfOk result (λ r. OnNamed (F.reads fields r.0) (S.value source)
         × S.left source r.1) }
     ensures array { IfOk result (λ _. (ts : Trees) × (S.value source ≡ array ts)) }
-    ensures err { IfErr result (λ e. S.is_whole source → form.Array ≡ form_of (S.value source) →
+    ensures err { IfErr result (λ e. S.is_whole source → form.Array ≡ source_kind_of (S.value source) →
         IsMemory e ⊎ ((x : F.Values) → ¬ OnNamed (F.reads fields x) (S.value source))) }
 {
     let (elements, rest) = match source.array() {

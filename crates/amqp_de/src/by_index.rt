@@ -3,7 +3,7 @@
 ghost use Rattle.std.specs.Prelude.{◌≡◌, List, [], ◌∷◌, Some, map, MatchResult};
 ghost use Rattle.amqp_ser.specs.Tree.{Tree, scalar, uint};
 ghost use Rattle.amqp_value.specs.TreeOf.{tree_of};
-ghost use Rattle.amqp_de.specs.Enums.{OnEnum, OnListed, OnKeyed, AtIndex, Variant};
+ghost use Rattle.amqp_de.specs.Enums.{OnEnum, OnListed, OnKeyed, ReadsAtIndex, ReturnsVariant};
 ghost use Rattle.amqp_de.specs.Enums.{enum_image, index_of_tree, trees_of_pair, value_of};
 ghost use Rattle.amqp_de.specs.Results.{IsMemory, TakesAll, BringsAll};
 
@@ -63,7 +63,7 @@ fn read_enum<V: Variants>(alloc: Global, variants: V, value: Value) -> Result<V:
             Ok(variant) => Ok(variant),
             Err(fault) => Err(fault),
         },
-        Value::List(values) => match read_listed::<V>(alloc, variants, values) {
+        Value::List(values) => match read_index_and_value::<V>(alloc, variants, values) {
             Ok(variant) => Ok(variant),
             Err(fault) => Err(fault),
         },
@@ -71,12 +71,12 @@ fn read_enum<V: Variants>(alloc: Global, variants: V, value: Value) -> Result<V:
             Ok(variant) => Ok(variant),
             Err(fault) => Err(fault),
         },
-        other => Err(refused(other)),
+        other => Err(not_an_enum(other)),
     }
 }
 
 // Drops a value that is no index, list or map.
-fn refused(value: Value) -> Fault
+fn not_an_enum(value: Value) -> Fault
     ensures { ¬ (IsMemory result) }
 {
     let found = value.kind();
@@ -91,9 +91,9 @@ fn read_at<V: Variants>(
     variants: V,
     index: Value,
     value: Option<Value>,
-    taken: usize,
+    count_read: usize,
 ) -> Result<V::Value, Fault>
-    ensures read { Variant (AtIndex V.reads (index_of_tree (tree_of index))
+    ensures read { ReturnsVariant (ReadsAtIndex V.reads (index_of_tree (tree_of index))
         (value_of tree_of value)) result }
     ensures law { (x : V.Value) → V.restorable x →
         tree_of index ≡ scalar (uint (V.position x)) → value_of tree_of value ≡ V.content x →
@@ -103,24 +103,24 @@ fn read_at<V: Variants>(
         Value::Uint(index) => match value {
             Some(value) => match variants.read_value(alloc, index, Held { value }) {
                 Ok(read) => Ok(read.0),
-                Err(fault) => Err(fault.after(Some(taken))),
+                Err(fault) => Err(fault.after(Some(count_read))),
             },
             None => match variants.read_index(index) {
                 Ok(variant) => Ok(variant),
                 Err(fault) => Err(fault.after(Some(1))),
             },
         },
-        other => Err(refused(other).after(Some(1))),
+        other => Err(not_an_enum(other).after(Some(1))),
     }
 }
 
 // Reads a variant from its index and its value. Further elements are ignored.
-fn read_listed<V: Variants>(
+fn read_index_and_value<V: Variants>(
     alloc: Global,
     variants: V,
     values: Vec<Value>,
 ) -> Result<V::Value, Fault>
-    ensures { Variant (OnListed V.reads (map tree_of values.items)) result }
+    ensures { ReturnsVariant (OnListed V.reads (map tree_of values.items)) result }
 {
     let mut values = values.into_iter();
     match values.next() {
@@ -144,7 +144,7 @@ fn read_keyed<V: Variants>(
     variants: V,
     pairs: Vec<(Value, Value)>,
 ) -> Result<V::Value, Fault>
-    ensures read { Variant (OnKeyed V.reads (map trees_of_pair pairs.items)) result }
+    ensures read { ReturnsVariant (OnKeyed V.reads (map trees_of_pair pairs.items)) result }
     ensures law { (x : V.Value) (t : Tree) → V.restorable x →
         V.content x ≡ Some t →
         map trees_of_pair pairs.items ≡ (scalar (uint (V.position x)), t) ∷ [] →

@@ -61,7 +61,7 @@ impl<V: Deserialize + Numbered, const D: u64> Field for OrNumber<V, D> {
     }
 
     #[inline(always)]
-    fn read_absent<S: Source>(_name: &'static str, _taken: Option<usize>) -> Result<V, Fault> {
+    fn read_absent<S: Source>(_name: &'static str, _count_read: Option<usize>) -> Result<V, Fault> {
         Ok(V::from_number(D))
     }
 }

@@ -7,7 +7,7 @@ ghost use Rattle.std.specs.Map.{keys_of};
 ghost use Rattle.amqp_ser.specs.Tree.{Tree};
 ghost use Rattle.amqp_de.specs.Maps.{AreApart};
 ghost use Rattle.amqp_de.specs.Reads.{Always};
-ghost use Rattle.amqp_de.specs.Results.{IsMemory, Takes, Brings, TakesAll, BringsAll, Reading};
+ghost use Rattle.amqp_de.specs.Results.{IsMemory, Takes, Brings, TakesAll, BringsAll, ReadsAndRestores};
 
 use crate::fault::Fault;
 use crate::room::first_item;
@@ -54,7 +54,7 @@ pub trait Deserialize: Sized + Drop {
     #[inline(never)]
     fn read_all<S: Source>(alloc: Global, elements: S::Elements) -> Result<Vec<Self>, Fault>
         ensures ok { IfOk result (λ v. (ts : List Tree) × S.holds elements ts
-            × AllZip (Reading reads image restorable same) ts v.items) }
+            × AllZip (ReadsAndRestores reads image restorable same) ts v.items) }
         ensures err { IfErr result (λ e. S.are_whole elements → IsMemory e
             ⊎ ((xs : List Self) → ¬ AllZip reads (S.items elements) xs)) }
         ensures law { (xs : List Self) → AllByRecursion restorable xs →
@@ -69,7 +69,7 @@ pub trait Deserialize: Sized + Drop {
         };
         let (first, rest) = match Self::read(alloc, source) {
             Ok(read) => read,
-            Err(fault) => return Err(S::placed(fault, "", S::taken(&elements))),
+            Err(fault) => return Err(S::placed(fault, "", S::count_read(&elements))),
         };
         S::resume(&mut elements, rest);
         let mut values = match first_item(alloc, first, room) {
@@ -83,7 +83,7 @@ pub trait Deserialize: Sized + Drop {
             };
             let (value, rest) = match Self::read(alloc, source) {
                 Ok(read) => read,
-                Err(fault) => return Err(S::placed(fault, "", S::taken(&elements))),
+                Err(fault) => return Err(S::placed(fault, "", S::count_read(&elements))),
             };
             S::resume(&mut elements, rest);
             if values.push(value).is_err() {

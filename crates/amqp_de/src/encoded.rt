@@ -7,7 +7,7 @@ ghost use Rattle.amqp_de.specs.Maps.{AreApart};
 
 use crate::encoded_parts::{Encoded, EncodedElements, EncodedEntries};
 use crate::fault::Fault;
-use crate::form::{Form, form_of_code};
+use crate::source_kind::{SourceKind, source_kind_of_code};
 use crate::parts::{first_descriptor, list_scalars, split_name};
 use crate::scalar::Scalar;
 use crate::source::Source;
@@ -75,8 +75,8 @@ impl<'a> Source for Encoded<'a> {
     }
 
     #[inline(always)]
-    fn looks(&self) -> Form {
-        form_of_code(self.code)
+    fn source_kind(&self) -> SourceKind {
+        source_kind_of_code(self.code)
     }
 
     #[inline(always)]

@@ -3,7 +3,7 @@
 ghost use Rattle.std.specs.Prelude.{◌≡◌};
 ghost use Rattle.amqp_data.specs.declared.error.Error.TheVariants as error;
 ghost use Rattle.amqp_de.specs.Results.{IsMemory, kind_of};
-ghost use Rattle.amqp_de.specs.Spelled.{IsOfReading, error_of, kind_for};
+ghost use Rattle.amqp_de.specs.FromBytes.{IsOfReading, error_of, kind_for};
 ghost use Rattle.amqp_de.specs.declared.fault.FaultKind.TheVariants.{OutOfMemory};
 
 use crate::fault::{Fault, FaultKind};

@@ -3,7 +3,7 @@
 ghost use Rattle.std.specs.Prelude.{◌≡◌, IfSome};
 ghost use Rattle.amqp_de.specs.declared.fault.FaultKind.TheVariants.{Invalid, GaveUp};
 ghost use Rattle.amqp_de.specs.Results.{IsMemory, kind_of};
-ghost use Rattle.amqp_de.specs.Spelled.{HasOffset, HasOffsetIn};
+ghost use Rattle.amqp_de.specs.FromBytes.{HasOffset, HasOffsetIn};
 
 use crate::kinds::{kind_numbered, number_of};
 use crate::offset::{TOO_FAR, offset_of, path_around};
@@ -136,13 +136,13 @@ impl Fault {
     /// Returns the error for a required field that is missing, in a list the last of this number of
     /// elements.
     #[inline(never)]
-    pub fn missing(name: &'static str, taken: Option<usize>) -> Fault
+    pub fn missing(name: &'static str, count_read: Option<usize>) -> Fault
         ensures memory { ¬ (IsMemory result) }
         ensures kind { kind_of result ≡ Invalid }
     {
         let mut fault = Fault::new(FaultKind::Invalid);
         fault.place = MISSING;
-        fault.in_field(name, taken)
+        fault.in_field(name, count_read)
     }
 
     /// Returns the error of a source that gives up.
@@ -157,14 +157,14 @@ impl Fault {
     /// Adds the name of the field that could not be read, the last of this number of elements that
     /// were taken. The names of the two innermost fields are kept.
     #[inline(never)]
-    pub fn in_field(self, name: &'static str, taken: Option<usize>) -> Fault
+    pub fn in_field(self, name: &'static str, count_read: Option<usize>) -> Fault
         ensures { kind_of result ≡ kind_of self }
     {
         let mut fault = self;
         if fault.place & PLACED != 0 {
-            fault.reason = fault.reason % 8 + 8 * path_around(fault.reason / 8, taken);
+            fault.reason = fault.reason % 8 + 8 * path_around(fault.reason / 8, count_read);
         } else {
-            fault.place = fault.place | PLACED | (taken.unwrap_or(0) as u64) << INDEX;
+            fault.place = fault.place | PLACED | (count_read.unwrap_or(0) as u64) << INDEX;
             if !name.is_empty() {
                 fault.place = fault.place | OF_FIELD;
             }
@@ -179,10 +179,10 @@ impl Fault {
 
     /// Adds the position of the value that could not be read, the last of this number of values
     /// that were taken.
-    pub fn after(self, taken: Option<usize>) -> Fault
+    pub fn after(self, count_read: Option<usize>) -> Fault
         ensures { kind_of result ≡ kind_of self }
     {
-        self.in_field("", taken)
+        self.in_field("", count_read)
     }
 
     /// Adds the offset of the value that could not be read, or of the end of the list or map in

@@ -5,8 +5,8 @@ ghost use Rattle.amqp_ser.specs.Tree.{Tree};
 ghost use Rattle.amqp_de.specs.Fields.{by_position, by_name, without};
 ghost use Rattle.amqp_de.specs.Parts.{ReadsFields, images_of_fields, RestorableFields, SameFields};
 ghost use Rattle.amqp_de.specs.Present.{EndsEarly, present_fields, distinct_names};
-ghost use Rattle.amqp_de.specs.Results.{IsMemory, Takes, Brings, Reading};
-ghost use Rattle.amqp_de.specs.Steps.{Taken, TakenNamed, TakesField, TakesNamed, Follows};
+ghost use Rattle.amqp_de.specs.Results.{IsMemory, Takes, Brings, ReadsAndRestores};
+ghost use Rattle.amqp_de.specs.Steps.{ReadsElements, ReadsEntries, TakesField, TakesNamed, Follows};
 ghost use Rattle.amqp_de.specs.Steps.{RefusesValue, RefusesFirst, RefusesNamed, IsRequired};
 ghost use Rattle.amqp_de.specs.declared.fields.FieldValues.{FieldValues};
 
@@ -52,7 +52,7 @@ pub trait Field {
     /// Returns the value of an absent field, or the error for a missing one.
     fn read_absent<S: Source>(
         name: &'static str,
-        taken: Option<usize>,
+        count_read: Option<usize>,
     ) -> Result<Self::Value, Fault>
         ensures ok { IfOk result (λ x. absent x) }
         ensures err { IfErr result (λ _. IsRequired absent present) };
@@ -82,8 +82,8 @@ impl<V: Deserialize> Field for Of<V> {
     }
 
     #[inline(always)]
-    fn read_absent<S: Source>(name: &'static str, taken: Option<usize>) -> Result<V, Fault> {
-        Err(S::missing(name, taken))
+    fn read_absent<S: Source>(name: &'static str, count_read: Option<usize>) -> Result<V, Fault> {
+        Err(S::missing(name, count_read))
     }
 }
 
@@ -95,7 +95,7 @@ fn next_value<F: Field, S: Source>(
     elements: &mut S::Elements,
 ) -> Result<F::Value, Fault>
     ensures ok { IfOk result (λ x. (ts : List Tree) → S.holds elements.new ts →
-        TakesField (Reading F.reads F.image F.restorable F.same) F.absent
+        TakesField (ReadsAndRestores F.reads F.image F.restorable F.same) F.absent
         (S.holds elements.old) ts x) }
     ensures whole { IfOk result (λ _. S.are_whole elements.old →
         S.are_whole elements.new × Follows (S.items elements.old) (S.items elements.new)) }
@@ -105,11 +105,11 @@ fn next_value<F: Field, S: Source>(
 {
     let element = match S::next(&mut *elements) {
         Some(element) => element,
-        None => return F::read_absent::<S>(name, S::taken(elements)),
+        None => return F::read_absent::<S>(name, S::count_read(elements)),
     };
     let (value, rest) = match F::read(alloc, element) {
         Ok(read) => read,
-        Err(fault) => return Err(S::placed(fault, name, S::taken(elements))),
+        Err(fault) => return Err(S::placed(fault, name, S::count_read(elements))),
     };
     S::resume(elements, rest);
     Ok(value)
@@ -124,7 +124,7 @@ fn named_value<F: Field, S: Source>(
 ) -> Result<F::Value, Fault>
     ensures ok { IfOk result (λ x. (ps : List (Tree × Tree)) → S.holds_pairs entries.new ps →
         (qs : List (Tree × Tree)) × S.holds_pairs entries.old qs
-        × TakesNamed (Reading F.reads F.image F.restorable F.same) F.absent
+        × TakesNamed (ReadsAndRestores F.reads F.image F.restorable F.same) F.absent
         S.only S.needs name.now qs ps x) }
     ensures whole { IfOk result (λ x. S.pairs_whole entries.old → S.pairs_whole entries.new
         × (S.pairs entries.new ≡ without name.now (S.pairs entries.old))) }
@@ -154,7 +154,7 @@ pub(crate) fn read_elements<F: Field, R: FieldSeeds, S: Source>(
     others: &R,
     elements: S::Elements,
 ) -> Result<FieldValues<F::Value, R::Values>, Fault>
-    ensures ok { IfOk result (Taken (ReadsFields F.absent name.now F.reads (R.reads others.now))
+    ensures ok { IfOk result (ReadsElements (ReadsFields F.absent name.now F.reads (R.reads others.now))
         (images_of_fields F.present F.image R.images) (RestorableFields F.restorable R.restorable)
         (SameFields F.same R.same) (S.holds elements)) }
     ensures err { IfErr result (λ e. S.are_whole elements → IsMemory e
@@ -184,7 +184,7 @@ pub(crate) fn read_entries<F: Field, R: FieldSeeds, S: Source>(
     others: &R,
     entries: S::Entries,
 ) -> Result<FieldValues<F::Value, R::Values>, Fault>
-    ensures ok { IfOk result (TakenNamed
+    ensures ok { IfOk result (ReadsEntries
         (ReadsFields F.absent name.now F.reads (R.reads others.now)) (name.now ∷ R.names others.now)
         (images_of_fields F.present F.image R.images) (RestorableFields F.restorable R.restorable)
         (SameFields F.same R.same) S.needs S.only (S.holds_pairs entries)) }

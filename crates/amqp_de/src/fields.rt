@@ -7,7 +7,7 @@ ghost use Rattle.amqp_de.specs.Fields.{ReadsRequired, NoMoreFields};
 ghost use Rattle.amqp_de.specs.Present.{EndsEarly, required, present_fields, distinct_names};
 ghost use Rattle.amqp_de.specs.Reads.{Always};
 ghost use Rattle.amqp_de.specs.Results.{IsMemory};
-ghost use Rattle.amqp_de.specs.Steps.{Taken, TakenNamed};
+ghost use Rattle.amqp_de.specs.Steps.{ReadsElements, ReadsEntries};
 
 use crate::deserialize::Deserialize;
 use crate::fault::Fault;
@@ -49,7 +49,7 @@ pub trait FieldSeeds: Sized {
         elements: S::Elements,
     ) -> Result<Self::Values, Fault>
         ensures ok { IfOk result
-            (Taken (reads self.now) images restorable same (S.holds elements)) }
+            (ReadsElements (reads self.now) images restorable same (S.holds elements)) }
         ensures err { IfErr result (λ e. S.are_whole elements → IsMemory e
             ⊎ ((x : Self.Values) → ¬ reads self.now x (by_position (S.items elements)))) }
         ensures law { (x : Self.Values) → restorable x → EndsEarly (images x) (S.items elements) →
@@ -61,7 +61,7 @@ pub trait FieldSeeds: Sized {
         alloc: Global,
         entries: S::Entries,
     ) -> Result<Self::Values, Fault>
-        ensures ok { IfOk result (TakenNamed (reads self.now) (names self.now) images restorable
+        ensures ok { IfOk result (ReadsEntries (reads self.now) (names self.now) images restorable
             same S.needs S.only (S.holds_pairs entries)) }
         ensures err { IfErr result (λ e. S.pairs_whole entries → IsMemory e
             ⊎ ((x : Self.Values) → ¬ reads self.now x (by_name (S.pairs entries)))) }

@@ -6,7 +6,7 @@ ghost use Rattle.amqp_de.specs.Results.{IsMemory, TakesAll, BringsAll};
 
 use crate::deserialize::Deserialize;
 use crate::fault::Fault;
-use crate::form::{Form, form_of};
+use crate::source_kind::{SourceKind, source_kind_of};
 use crate::held_parts::{Held, HeldElements, HeldEntries};
 use crate::keys::find;
 use crate::scalar::{Scalar, content_of};
@@ -18,7 +18,7 @@ use std::collections::VecDeque;
 
 // Drops a value of another type.
 #[inline(never)]
-fn refused(wanted: ValueKind, value: Value) -> Fault
+fn unexpected_kind(wanted: ValueKind, value: Value) -> Fault
     ensures { ¬ (IsMemory result) }
 {
     let found = value.kind();
@@ -37,17 +37,17 @@ fn other_type<K: Scalar>(found: ValueKind) -> Fault
 }
 
 #[inline(always)]
-fn other_element<K: Scalar>(found: ValueKind, taken: usize) -> Fault
+fn other_element<K: Scalar>(found: ValueKind, count_read: usize) -> Fault
     ensures { ¬ (IsMemory result) }
 {
-    Fault::other(K::kind(), found).after(Some(taken))
+    Fault::other(K::kind(), found).after(Some(count_read))
 }
 
 #[inline(always)]
 fn other_value(wanted: ValueKind, value: Value) -> Fault
     ensures { ¬ (IsMemory result) }
 {
-    refused(wanted, value)
+    unexpected_kind(wanted, value)
 }
 
 impl Source for Held {
@@ -108,8 +108,8 @@ impl Source for Held {
     }
 
     #[inline(always)]
-    fn looks(&self) -> Form {
-        form_of(&self.value)
+    fn source_kind(&self) -> SourceKind {
+        source_kind_of(&self.value)
     }
 
     #[inline(always)]
@@ -198,17 +198,17 @@ impl Source for Held {
     }
 
     #[inline(always)]
-    fn placed(fault: Fault, name: &'static str, taken: Option<usize>) -> Fault {
-        fault.in_field(name, taken)
+    fn placed(fault: Fault, name: &'static str, count_read: Option<usize>) -> Fault {
+        fault.in_field(name, count_read)
     }
 
     #[inline(always)]
-    fn missing(name: &'static str, taken: Option<usize>) -> Fault {
-        Fault::missing(name, taken)
+    fn missing(name: &'static str, count_read: Option<usize>) -> Fault {
+        Fault::missing(name, count_read)
     }
 
     #[inline(always)]
-    fn taken(elements: &HeldElements) -> Option<usize> {
+    fn count_read(elements: &HeldElements) -> Option<usize> {
         Some(elements.count.saturating_sub(elements.values.len()))
     }
 
@@ -233,8 +233,8 @@ impl Source for Held {
             match content_of::<K>(value) {
                 Ok(content) => items.push_reserved(content),
                 Err(found) => {
-                    let taken = count.saturating_sub(values.len());
-                    return Err(other_element::<K>(found, taken));
+                    let count_read = count.saturating_sub(values.len());
+                    return Err(other_element::<K>(found, count_read));
                 }
             }
         }
@@ -272,7 +272,7 @@ impl Source for Held {
     }
 
     #[inline(always)]
-    fn taken_entries(entries: &HeldEntries) -> Option<usize> {
+    fn entries_read(entries: &HeldEntries) -> Option<usize> {
         Some(entries.count.saturating_sub(entries.pairs.len()))
     }
 

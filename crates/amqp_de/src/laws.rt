@@ -7,7 +7,7 @@ ghost use Rattle.std.specs.List.{IsDistinct};
 ghost use Rattle.std.specs.List.Sorted.{IsStrictlySortedBy};
 ghost use Rattle.std.specs.declared.cmp.Ordering.TheVariants.{Equal};
 ghost use Rattle.amqp_data.specs.Pairs as pairs;
-ghost use Rattle.amqp_de.specs.Maps.{AreDistinct, Ascend};
+ghost use Rattle.amqp_de.specs.Maps.{AreDistinct, AreAscending};
 
 pub mod readings_of_carried_types;
 
@@ -27,7 +27,7 @@ pub fn distinct_keys_stay_apart<K: Deserialize + Eq>()
 /// that keys with the same contents are equal.
 pub fn ascending_keys_stay_apart<K: Deserialize + Ord>()
     ensures { ((x y : K) → K.same x y → K.cmp x y ≡ Equal) → (ks : List K) →
-        IsStrictlySortedBy K.cmp ks → Ascend K.same K.cmp ks }
+        IsStrictlySortedBy K.cmp ks → AreAscending K.same K.cmp ks }
 {}
 
 /// Keys with the same contents are equal: integers of 32 and 64 bits, strings, symbols, binaries

@@ -16,26 +16,26 @@ use crate::optional_fields::Optional;
 /// Fields whose reading is determined by their types and their names.
 pub trait NamedFields: FieldSeeds {
     /// Which elements or entries are read as which values, if the fields have these names.
-    ghost named: { List (List ℕ) → Self.Values → FieldSource → Type 0 };
+    ghost reads_by_names: { List (List ℕ) → Self.Values → FieldSource → Type 0 };
 
     /// States that elements are read whatever the names are, and entries by them.
     fn names_suffice()
         ensures position { (f : Self) (ns : List (List ℕ)) (x : Self.Values) (ts : List Tree) →
-            Self.reads f x (by_position ts) ↔ named ns x (by_position ts) }
+            Self.reads f x (by_position ts) ↔ reads_by_names ns x (by_position ts) }
         ensures name { (f : Self) (x : Self.Values) (ps : List (Tree × Tree)) →
-            Self.reads f x (by_name ps) ↔ named (Self.names f) x (by_name ps) };
+            Self.reads f x (by_name ps) ↔ reads_by_names (Self.names f) x (by_name ps) };
 }
 
 #[tactic(auto, unfolding(crate::specs::Fields::NoMoreFields))]
 impl NamedFields for () {
-    ghost named = { λ _ _. NoMoreFields };
+    ghost reads_by_names = { λ _ _. NoMoreFields };
 
     fn names_suffice() {}
 }
 
 impl<V: Deserialize, R: NamedFields> NamedFields for Required<V, R> {
-    ghost named = { λ ns x.
-        ReadsRequired (first_name ns) V.reads x.value (R.named (other_names ns) x.rest) };
+    ghost reads_by_names = { λ ns x.
+        ReadsRequired (first_name ns) V.reads x.value (R.reads_by_names (other_names ns) x.rest) };
 
     fn names_suffice() {
         R::names_suffice();
@@ -43,8 +43,8 @@ impl<V: Deserialize, R: NamedFields> NamedFields for Required<V, R> {
 }
 
 impl<V: Deserialize, R: NamedFields> NamedFields for Optional<V, R> {
-    ghost named = { λ ns x.
-        ReadsOptional (first_name ns) V.reads x.value (R.named (other_names ns) x.rest) };
+    ghost reads_by_names = { λ ns x.
+        ReadsOptional (first_name ns) V.reads x.value (R.reads_by_names (other_names ns) x.rest) };
 
     fn names_suffice() {
         R::names_suffice();
@@ -52,8 +52,8 @@ impl<V: Deserialize, R: NamedFields> NamedFields for Optional<V, R> {
 }
 
 impl<V: Deserialize + Numbered, const D: u64, R: NamedFields> NamedFields for Defaulted<V, D, R> {
-    ghost named = { λ ns x. ReadsDefaulted (first_name ns) (V.numbered D) V.reads x.value
-        (R.named (other_names ns) x.rest) };
+    ghost reads_by_names = { λ ns x. ReadsDefaulted (first_name ns) (V.numbered D) V.reads x.value
+        (R.reads_by_names (other_names ns) x.rest) };
 
     fn names_suffice() {
         R::names_suffice();

@@ -19,11 +19,11 @@ pub(crate) const TOO_FAR: usize = 0xfff_ffff_ffff_ffff;
 
 /// Returns the path of a value whose part has this path, if the part is the last of this number of
 /// parts.
-pub(crate) fn path_around(path: usize, taken: Option<usize>) -> usize
+pub(crate) fn path_around(path: usize, count_read: Option<usize>) -> usize
     ensures { result < 2 ^ 60 }
 {
-    match taken {
-        Some(taken) if taken < POSITIONS && path < PATHS => path * POSITIONS + taken,
+    match count_read {
+        Some(count_read) if count_read < POSITIONS && path < PATHS => path * POSITIONS + count_read,
         _ => TOO_FAR,
     }
 }
@@ -41,7 +41,7 @@ pub(crate) fn offset_of(
     if path >= TOO_FAR {
         return None;
     }
-    let mut at = Spot { code: 0, bytes };
+    let mut at = EncodedPart { code: 0, bytes };
     let mut path = path;
     for _ in 0..4 {
         let position = path % POSITIONS;
@@ -59,13 +59,13 @@ pub(crate) fn offset_of(
 
 // A value, with the bytes after it. The code is that of an element of an array, or 0.
 #[derive(Clone, Copy)]
-struct Spot<'a> {
+struct EncodedPart<'a> {
     code: u8,
     bytes: &'a [u8],
 }
 
 // Returns the format code after all descriptors, and the bytes after it.
-fn opened(at: Spot) -> Option<(u8, &[u8])> {
+fn opened(at: EncodedPart) -> Option<(u8, &[u8])> {
     if at.code != 0 {
         return Some((at.code, at.bytes));
     }
@@ -81,7 +81,7 @@ fn opened(at: Spot) -> Option<(u8, &[u8])> {
 }
 
 // Returns the first part of a list, an array or a map.
-fn first_of(at: Spot) -> Option<Spot> {
+fn first_of(at: EncodedPart) -> Option<EncodedPart> {
     let (code, payload) = opened(at)?;
     let header = match code {
         0x45 => 0,
@@ -91,15 +91,15 @@ fn first_of(at: Spot) -> Option<Spot> {
     };
     let bytes = payload.get(header..)?;
     if code < 0xe0 {
-        return Some(Spot { code: 0, bytes });
+        return Some(EncodedPart { code: 0, bytes });
     }
     let (code, bytes) = bytes.split_first()?;
-    Some(Spot { code: *code, bytes })
+    Some(EncodedPart { code: *code, bytes })
 }
 
 // Returns what follows a value.
-fn next_to(at: Spot) -> Option<Spot> {
-    let Spot { code, bytes } = at;
+fn next_to(at: EncodedPart) -> Option<EncodedPart> {
+    let EncodedPart { code, bytes } = at;
     let len = match code >> 4 {
         0x0 => frame_len(bytes)?,
         0x4 => 0,
@@ -112,15 +112,15 @@ fn next_to(at: Spot) -> Option<Spot> {
         _ => 4 + u32::from_be_bytes(*bytes.first_chunk::<4>()?) as usize,
     };
     let bytes = bytes.get(len..)?;
-    Some(Spot { code, bytes })
+    Some(EncodedPart { code, bytes })
 }
 
-fn is_map(at: Spot) -> bool {
+fn is_map(at: EncodedPart) -> bool {
     matches!(opened(at), Some((0xc1 | 0xd1, _)))
 }
 
 // Returns the element at this index, the key of the entry, or what follows the last one.
-fn part_of(at: Spot, index: usize) -> Option<Spot> {
+fn part_of(at: EncodedPart, index: usize) -> Option<EncodedPart> {
     let mut part = first_of(at)?;
     let values = if is_map(at) { 2 } else { 1 };
     for _ in 0..index.saturating_mul(values) {
@@ -130,7 +130,7 @@ fn part_of(at: Spot, index: usize) -> Option<Spot> {
 }
 
 // Returns the element at this index, or the value of the entry. `None` if the key has parts too.
-fn value_in(at: Spot, index: usize) -> Option<Spot> {
+fn value_in(at: EncodedPart, index: usize) -> Option<EncodedPart> {
     let part = part_of(at, index)?;
     if !is_map(at) {
         Some(part)
@@ -142,10 +142,10 @@ fn value_in(at: Spot, index: usize) -> Option<Spot> {
 }
 
 // Returns how many bytes are left from the value of this key on, or after the map if there is none.
-fn left_from(at: Spot, name: &str) -> Option<usize> {
+fn left_from(at: EncodedPart, name: &str) -> Option<usize> {
     let (code, payload) = opened(at)?;
     let (count, body, after) = split_map(code, payload).ok()?;
-    let mut entry = Spot {
+    let mut entry = EncodedPart {
         code: 0,
         bytes: body,
     };

@@ -49,7 +49,7 @@ impl<V: Deserialize> Field for Option<V> {
     #[inline(always)]
     fn read_absent<S: Source>(
         _name: &'static str,
-        _taken: Option<usize>,
+        _count_read: Option<usize>,
     ) -> Result<Option<V>, Fault> {
         Ok(None)
     }

@@ -153,7 +153,7 @@ where
     ghost fits = { λ _. Unit {0} };
 
     ghost laws = { λ ns. record {
-      reads = λ t x. OnFields (F.named ns x) t;
+      reads = λ t x. OnFields (F.reads_by_names ns x) t;
       image = λ x. short_list (F.images x);
       restorable = F.restorable;
       same = F.same;
@@ -182,7 +182,7 @@ where
     ghost fits = { λ _. Unit {0} };
 
     ghost laws = { λ ns. record {
-      reads = λ t x. OnFields (F.named ns x) t;
+      reads = λ t x. OnFields (F.reads_by_names ns x) t;
       image = λ x. list (trees_of (all_images (F.images x)));
       restorable = F.restorable;
       same = F.same;
@@ -211,7 +211,7 @@ where
     ghost fits = { λ ns. distinct_names ns ≡ true };
 
     ghost laws = { λ ns. record {
-      reads = λ t x. OnEntries (F.named ns x) t;
+      reads = λ t x. OnEntries (F.reads_by_names ns x) t;
       image = λ x. short_map ns (F.images x);
       restorable = F.restorable;
       same = F.same;

@@ -6,11 +6,11 @@ ghost use Rattle.amqp_ser.specs.Tree.{Tree};
 ghost use Rattle.amqp_value.specs.TreeOf.{tree_of};
 ghost use Rattle.amqp_decode.specs.Faults.{DecodeFails};
 ghost use Rattle.amqp_decode.specs.Parsed.{parse};
-ghost use Rattle.amqp_decode.specs.Spells.{Spells};
+ghost use Rattle.amqp_decode.specs.Encodes.{Encodes};
 ghost use Rattle.amqp_decode.specs.WithoutBytes.{elements_without_bytes};
-ghost use Rattle.amqp_de.specs.Results.{IsMemory, Reading};
+ghost use Rattle.amqp_de.specs.Results.{IsMemory, ReadsAndRestores};
 ghost use Rattle.amqp_de.specs.Answers.{Answers, Restores};
-ghost use Rattle.amqp_de.specs.Spelled.{IsOfReading, ReadsSpelled};
+ghost use Rattle.amqp_de.specs.FromBytes.{IsOfReading, ReadsEncoded};
 
 use crate::deserialize::Deserialize;
 use crate::encoded_parts::Encoded;
@@ -89,12 +89,12 @@ pub fn from_value_located<T: Deserialize>(alloc: Global, value: Value) -> Result
 /// # Example
 /// `5205` is read as the `u32` 5. `520540` and `5105` are not.
 pub fn from_slice<T: Deserialize>(alloc: Global, bytes: &[u8]) -> Result<T, Error>
-    ensures read { Answers (λ e. e ≡ OutOfMemory) (ReadsSpelled T.reads bytes.now) result }
-    ensures law { (x : T) → T.restorable x → Spells 256 bytes.now (T.image x) →
+    ensures read { Answers (λ e. e ≡ OutOfMemory) (ReadsEncoded T.reads bytes.now) result }
+    ensures law { (x : T) → T.restorable x → Encodes 256 bytes.now (T.image x) →
         MatchResult result (λ y. T.same y x) (λ e. e ≡ OutOfMemory) }
-    ensures fault { ((t : Tree) → ¬ Spells 256 bytes.now t) →
+    ensures fault { ((t : Tree) → ¬ Encodes 256 bytes.now t) →
         IfErr result (DecodeFails 256 bytes.now) }
-    ensures kind { IfErr result (λ e. (t : Tree) → Spells 256 bytes.now t → IsOfReading e) }
+    ensures kind { IfErr result (λ e. (t : Tree) → Encodes 256 bytes.now t → IsOfReading e) }
 {
     match read_bytes::<T>(alloc, bytes, DEPTH) {
         Some(read) => Ok(read),
@@ -106,7 +106,7 @@ pub fn from_slice<T: Deserialize>(alloc: Global, bytes: &[u8]) -> Result<T, Erro
 #[inline(always)]
 pub fn read_bytes<T: Deserialize>(alloc: Global, bytes: &[u8], depth: u16) -> Option<T>
     ensures read { IfSome result (λ x. (t : Tree) × (parse (suc depth) bytes.now ≡ Some (t, []))
-        × Reading T.reads T.image T.restorable T.same t x) }
+        × ReadsAndRestores T.reads T.image T.restorable T.same t x) }
     ensures none { IfSome result (λ _. elements_without_bytes (suc depth) bytes.now ≡ 0) }
 {
     let (code, payload) = bytes.split_first()?;
@@ -124,12 +124,12 @@ pub fn read_bytes<T: Deserialize>(alloc: Global, bytes: &[u8], depth: u16) -> Op
 // Reads a `T` from the untyped value that the bytes encode.
 #[inline(never)]
 fn read_by_value<T: Deserialize>(alloc: Global, bytes: &[u8]) -> Result<T, Error>
-    ensures read { Answers (λ e. e ≡ OutOfMemory) (ReadsSpelled T.reads bytes.now) result }
-    ensures law { (x : T) → T.restorable x → Spells 256 bytes.now (T.image x) →
+    ensures read { Answers (λ e. e ≡ OutOfMemory) (ReadsEncoded T.reads bytes.now) result }
+    ensures law { (x : T) → T.restorable x → Encodes 256 bytes.now (T.image x) →
         MatchResult result (λ y. T.same y x) (λ e. e ≡ OutOfMemory) }
-    ensures fault { ((t : Tree) → ¬ Spells 256 bytes.now t) →
+    ensures fault { ((t : Tree) → ¬ Encodes 256 bytes.now t) →
         IfErr result (DecodeFails 256 bytes.now) }
-    ensures kind { IfErr result (λ e. (t : Tree) → Spells 256 bytes.now t → IsOfReading e) }
+    ensures kind { IfErr result (λ e. (t : Tree) → Encodes 256 bytes.now t → IsOfReading e) }
 {
     match decode_value(alloc, bytes) {
         Ok(value) => match from_value::<T>(alloc, value) {

@@ -8,13 +8,13 @@ ghost use Rattle.amqp_ser.specs.Carried.{descriptor_content};
 ghost use Rattle.amqp_ser.specs.Tree.{Tree, Trees, Pairs, Scalar, Descriptor as AnyDescriptor, scalar, null, list, array, map, described, trees_of};
 ghost use Rattle.amqp_value.specs.TreeOf.{tree_of, pairs_of};
 ghost use Rattle.amqp_de.specs.Maps.{AreApart};
-ghost use Rattle.amqp_de.specs.Forms.{Looks};
+ghost use Rattle.amqp_de.specs.SourceKinds.{HasSourceKind};
 ghost use Rattle.amqp_de.specs.Results.{IsMemory, kind_of, Takes};
 ghost use Rattle.amqp_de.specs.Fields.{value_at, without};
 ghost use Rattle.amqp_de.specs.Present.{distinct_names, has_name};
 
 use crate::fault::Fault;
-use crate::form::Form;
+use crate::source_kind::SourceKind;
 use crate::scalar::Scalar;
 use amqp_data::Descriptor;
 use amqp_value::Value;
@@ -108,10 +108,10 @@ pub trait Source: Sized + Drop {
 
     /// What kind of value it probably is; `Other`, as here, if the source does not know it.
     #[inline(always)]
-    fn looks(&self) -> Form
-        ensures { is_whole self.now → Looks result (value self.now) }
+    fn source_kind(&self) -> SourceKind
+        ensures { is_whole self.now → HasSourceKind result (value self.now) }
     {
-        Form::Other
+        SourceKind::Other
     }
 
     /// Takes null.
@@ -195,7 +195,7 @@ pub trait Source: Sized + Drop {
 
     /// Adds the name of the field, the last of this number of elements, if places are kept.
     #[inline(always)]
-    fn placed(fault: Fault, _name: &'static str, _taken: Option<usize>) -> Fault
+    fn placed(fault: Fault, _name: &'static str, _count_read: Option<usize>) -> Fault
         ensures { kind_of result ≡ kind_of fault }
     {
         fault
@@ -203,7 +203,7 @@ pub trait Source: Sized + Drop {
 
     /// The error for a missing field, the last of this number of elements, if places are kept.
     #[inline(always)]
-    fn missing(_name: &'static str, _taken: Option<usize>) -> Fault
+    fn missing(_name: &'static str, _count_read: Option<usize>) -> Fault
         ensures { ¬ (IsMemory result) }
     {
         Fault::invalid()
@@ -211,7 +211,7 @@ pub trait Source: Sized + Drop {
 
     /// The number of elements that were asked for, if it is known.
     #[inline(always)]
-    fn taken(_elements: &Self::Elements) -> Option<usize> {
+    fn count_read(_elements: &Self::Elements) -> Option<usize> {
         None
     }
 
@@ -290,7 +290,7 @@ pub trait Source: Sized + Drop {
 
     /// The number of entries that were taken, if it is known.
     #[inline(always)]
-    fn taken_entries(_entries: &Self::Entries) -> Option<usize> {
+    fn entries_read(_entries: &Self::Entries) -> Option<usize> {
         None
     }
 

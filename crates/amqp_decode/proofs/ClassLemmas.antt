@@ -1,4 +1,4 @@
--- The kind of what a code's content spells is that of the code.
+-- The kind of what a code's content encodes is that of the code.
 use Rattle.std.proofs.Common.{◌≡◌, ◌==◌, ◌/◌, ◌%◌, ℕ, Bool, true, false, List, [], Option, Some, None, refl, sym, ap, ◌∙◌, if◌then◌else◌}
 use Rattle.std.specs.Int.{w8, w16, w32, w64, from_be_bytes, cast_signed}
 use Rattle.std.specs.Str.{is_utf8}
@@ -7,7 +7,7 @@ use Rattle.amqp_data.specs.declared.format_code.EncodingCodes.TheVariants as cod
 use Rattle.amqp_ser.specs.Tree as tree
 use Rattle.amqp_ser.specs.Tree.{Tree, Scalar, Pairs, trees_of, no_pairs}
 use Rattle.amqp_decode.specs.Scalars.{and_then, single, exact, truth, character, is_scalar_value, text, scalar_from, scalar_in, scalar_tree}
-use Rattle.amqp_decode.specs.Parsed.{FrameReader, ContentReader, content_of, counted_in, gather, insert, all, items_in, parse_list, parse_map, parse_array}
+use Rattle.amqp_decode.specs.Parsed.{ValueReader, ContentReader, content_of, counted_in, gather, insert, all, items_in, parse_list, parse_map, parse_array}
 use Rattle.amqp_decode.specs.declared.payload_shape.Count.TheVariants.{Absent, OneByte, FourBytes}
 use Rattle.amqp_decode.proofs.Classes.{class_of, class_of_scalar, class_of_code}
 use Rattle.amqp_decode.proofs.Levels.{both}
@@ -43,7 +43,7 @@ char_says : (o : Option (List ℕ)) (t : Tree) → and_then (and_then o (λ b. c
 char_says None t e = absurd cc
 char_says (Some b) t e = char_by (from_be_bytes w32 b) (is_scalar_value (from_be_bytes w32 b)) t e
 
-list_says : (f : FrameReader) (o : Option (ℕ × List ℕ)) (t : Tree) → and_then o (parse_list f) ≡ Some t → class_of t ≡ 21
+list_says : (f : ValueReader) (o : Option (ℕ × List ℕ)) (t : Tree) → and_then o (parse_list f) ≡ Some t → class_of t ≡ 21
 list_says f o t e =
     let a = both o (parse_list f) t e in
     let b = both (and_then (gather f a.0.0 a.0.1 []) all) (λ ts. Some (tree.list (trees_of ts))) t a.2 in
@@ -55,7 +55,7 @@ map_by q true t e =
     let b = both q (λ ps. Some (tree.map ps)) t e in
     sym (ap class_in b.2)
 
-map_says : (f : FrameReader) (o : Option (ℕ × List ℕ)) (t : Tree) → and_then o (parse_map f) ≡ Some t → class_of t ≡ 21
+map_says : (f : ValueReader) (o : Option (ℕ × List ℕ)) (t : Tree) → and_then o (parse_map f) ≡ Some t → class_of t ≡ 21
 map_says f o t e =
     let a = both o (parse_map f) t e in
     map_by (and_then (insert f (a.0.0 / 2) a.0.1 no_pairs) all) (a.0.0 % 2 == 0) t a.2
@@ -66,7 +66,7 @@ array_says h o t e =
     let b = both (items_in h a.0.0 a.0.1) (λ ts. Some (tree.array (trees_of ts))) t a.2 in
     sym (ap class_in b.2)
 
-pub class_says : (f : FrameReader) (h : ContentReader) (c : EncodingCodes) (s : List ℕ) (t : Tree) → content_of f h c s ≡ Some t → class_of t ≡ class_of_code c
+pub class_says : (f : ValueReader) (h : ContentReader) (c : EncodingCodes) (s : List ℕ) (t : Tree) → content_of f h c s ≡ Some t → class_of t ≡ class_of_code c
 unfolding scalar_in
 class_says f h code.Null s t e = sym (ap (λ o. class_in o) e)
 class_says f h code.BooleanTrue s t e = sym (ap (λ o. class_in o) e)

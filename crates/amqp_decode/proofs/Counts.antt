@@ -10,15 +10,15 @@ use Rattle.amqp_ser.specs.Tree.{Descriptor, Tree}
 use Rattle.amqp_value.proofs.SameLemmas.{numbers}
 use Rattle.amqp_decode.specs.Codes.{is_primitive, primitive_of, shape_of_code}
 use Rattle.amqp_decode.specs.Scalars.{and_then}
-use Rattle.amqp_decode.specs.Parsed.{FrameReader, ContentReader, content_at, counted_in, descriptor_at, parse_described, with_rest, payload_in, content_in, content_of, frame_in, parse_list, parse_map, parse_array, parse, parse_content}
-use Rattle.amqp_decode.specs.WithoutBytes.{has_no_payload, Counter, ContentCounter, if_read, sum_of, in_payload, own_items, in_items, in_array, in_shape, in_content, in_frame, elements_without_bytes, content_without_bytes, frame_around, content_around, Leaves, IsExceeded, IsWithin, Spends}
+use Rattle.amqp_decode.specs.Parsed.{ValueReader, ContentReader, content_at, counted_in, descriptor_at, parse_described, with_rest, payload_in, content_in, content_of, value_in_bytes, parse_list, parse_map, parse_array, parse, parse_content}
+use Rattle.amqp_decode.specs.WithoutBytes.{has_no_payload, Counter, ContentCounter, if_read, sum_of, in_payload, own_items, in_items, in_array, in_shape, in_content, counted_in_value, elements_without_bytes, content_without_bytes, value_around, content_around, Leaves, IsExceeded, IsWithin, Spends}
 use Rattle.amqp_decode.specs.declared.payload_shape.PayloadShape.{PayloadShape}
 use Rattle.amqp_decode.specs.declared.payload_shape.PayloadShape.TheVariants as shape
 use Rattle.amqp_decode.proofs.CodeLemmas.{named, primitive-found, primitive-nonzero}
 use Rattle.amqp_decode.proofs.Steps.{not-zero}
 
 -- The number at a depth that is not 0.
-pub count-at : (d : ℕ) (s : List ℕ) → 0 < d → elements_without_bytes d s ≡ frame_around (d - 1) s
+pub count-at : (d : ℕ) (s : List ℕ) → 0 < d → elements_without_bytes d s ≡ value_around (d - 1) s
 unfolding elements_without_bytes content_without_bytes
 count-at zero s lt = absurd (omega arith)
 count-at (suc d) s lt =
@@ -33,13 +33,13 @@ content-at (suc d) c s lt =
     rw e refl
 
 -- A value that can be read without reading any value inside it has no such elements.
-abbrev none-reader : FrameReader
+abbrev none-reader : ValueReader
 none-reader s = None
 
 abbrev none-content : ContentReader
 none-content code s = None
 
-module _ (c : Counter) (f : FrameReader) (k : ContentCounter) (h : ContentReader) where
+module _ (c : Counter) (f : ValueReader) (k : ContentCounter) (h : ContentReader) where
   no-list : (o : Option (ℕ × List ℕ)) (t : Tree) → and_then o (parse_list none-reader) ≡ Some t → if_read o (λ p. sum_of c f p.0 p.1) ≡ 0
   no-list None t e = refl
   no-list (Some (zero, s)) t e = refl
@@ -108,9 +108,9 @@ module _ (c : Counter) (f : FrameReader) (k : ContentCounter) (h : ContentReader
           let no : and_then (content_of none-reader none-content code p.0) (with_rest p.1) ≡ None = rw is refl in
           absurd cc
 
-  pub no-frame : (s : List ℕ) (r : Tree × List ℕ) → frame_in none-reader none-content s ≡ Some r → in_frame c f k h s ≡ 0
-  no-frame [] r e = refl
-  no-frame (b ∷ s) r e = by_test (b == 0) e
+  pub no-encoded : (s : List ℕ) (r : Tree × List ℕ) → value_in_bytes none-reader none-content s ≡ Some r → counted_in_value c f k h s ≡ 0
+  no-encoded [] r e = refl
+  no-encoded (b ∷ s) r e = by_test (b == 0) e
     where
       by_descriptor : (o : Option (Descriptor × List ℕ)) → and_then o (parse_described none-reader) ≡ Some r → if_read o (λ d. c d.1) ≡ 0
       by_descriptor None e = refl
@@ -128,13 +128,13 @@ module _ (c : Counter) (f : FrameReader) (k : ContentCounter) (h : ContentReader
       by_test false e = by_code (primitive_of b) e
 
 module _ (d : ℕ) where
-  pub found-count : (s : List ℕ) (r : Tree × List ℕ) → 0 < d → ((f : FrameReader) (h : ContentReader) → frame_in f h s ≡ Some r) → elements_without_bytes d s ≡ 0
+  pub found-count : (s : List ℕ) (r : Tree × List ℕ) → 0 < d → ((f : ValueReader) (h : ContentReader) → value_in_bytes f h s ≡ Some r) → elements_without_bytes d s ≡ 0
   found-count s r lt found =
       count-at d s lt
-      ∙ no-frame (elements_without_bytes (d - 1)) (parse (d - 1)) (content_without_bytes (d - 1)) (parse_content (d - 1)) s r (found none-reader none-content)
+      ∙ no-encoded (elements_without_bytes (d - 1)) (parse (d - 1)) (content_without_bytes (d - 1)) (parse_content (d - 1)) s r (found none-reader none-content)
 
   -- The payload of an array element is counted as the value with its code.
-  payload-count : (c : EncodingCodes) (s : List ℕ) → 0 < d → (code_of c ≡ 0 → ⊥) → frame_around (d - 1) (code_of c ∷ s) ≡ in_payload (content_without_bytes d) c s
+  payload-count : (c : EncodingCodes) (s : List ℕ) → 0 < d → (code_of c ≡ 0 → ⊥) → value_around (d - 1) (code_of c ∷ s) ≡ in_payload (content_without_bytes d) c s
   payload-count c s lt some =
       rw (not-zero (code_of c) some, named (code_of c) c some refl) (by_content (content_at (category (code_of c)) s))
     where
@@ -143,10 +143,10 @@ module _ (d : ℕ) where
       by_content (Some p) = sym (content-at d c p.0 lt)
 
   pub item-count : (c : EncodingCodes) (s : List ℕ) (r : Tree × List ℕ) → 0 < d → (code_of c ≡ 0 → ⊥)
-      → ((f : FrameReader) (h : ContentReader) → frame_in f h (code_of c ∷ s) ≡ Some r) → in_payload (content_without_bytes d) c s ≡ 0
+      → ((f : ValueReader) (h : ContentReader) → value_in_bytes f h (code_of c ∷ s) ≡ Some r) → in_payload (content_without_bytes d) c s ≡ 0
   item-count c s r lt some found =
       sym (payload-count c s lt some)
-      ∙ no-frame (elements_without_bytes (d - 1)) (parse (d - 1)) (content_without_bytes (d - 1)) (parse_content (d - 1)) (code_of c ∷ s) r (found none-reader none-content)
+      ∙ no-encoded (elements_without_bytes (d - 1)) (parse (d - 1)) (content_without_bytes (d - 1)) (parse_content (d - 1)) (code_of c ∷ s) r (found none-reader none-content)
 
   -- The content of the payload of an array element.
   pub content-count : (c : EncodingCodes) (s content rest : List ℕ) → 0 < d → content_at (category (code_of c)) s ≡ Some (content, rest)
@@ -154,11 +154,11 @@ module _ (d : ℕ) where
   content-count c s content rest lt is = rw is (sym (content-at d c content lt))
 
   -- The payload after the byte of a primitive code.
-  pub byte-count : (b : ℕ) (c : EncodingCodes) (s : List ℕ) → b ≡ code_of c → IsTrue (is_primitive c) → in_payload (content_around d) c s ≡ frame_around d (b ∷ s)
+  pub byte-count : (b : ℕ) (c : EncodingCodes) (s : List ℕ) → b ≡ code_of c → IsTrue (is_primitive c) → in_payload (content_around d) c s ≡ value_around d (b ∷ s)
   byte-count b c s is ok = rw (is, primitive-nonzero c ok, primitive-found c ok) refl
 
 -- The values one after another: the first, and those after it.
-module _ (c : Counter) (f : FrameReader) where
+module _ (c : Counter) (f : ValueReader) where
   pub sum-step : (n i : ℕ) (s rest : List ℕ) (t : Tree) → i < n → f s ≡ Some (t, rest) → sum_of c f (n - i) s ≡ c s + sum_of c f (n - (i + 1)) rest
   sum-step n i s rest t lt e =
       let same : n - i ≡ suc (n - (i + 1)) = omega arith in

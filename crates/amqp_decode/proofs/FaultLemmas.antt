@@ -8,8 +8,8 @@ use Rattle.amqp_data.specs.declared.format_code.EncodingCodes.{EncodingCodes}
 use Rattle.amqp_frame.specs.Code.{category}
 use Rattle.amqp_ser.specs.Tree.{Tree}
 use Rattle.amqp_decode.specs.Codes.{is_primitive, primitive_of, shape_of_code}
-use Rattle.amqp_decode.specs.Parsed.{FrameReader, ContentReader, content_at, descriptor_at, payload_in, parse, parse_content}
-use Rattle.amqp_decode.specs.Faults.{Fault, PayloadFault, fault_of_values, fault_of_payload, fault_of_byte, fault_of_map, fault_of_array, fault_of_shape, fault_of_content, fault_of_descriptor, fault_of_frame, fault_in, fault_in_item, fault_around, content_fault, decode_fault, FailsBy}
+use Rattle.amqp_decode.specs.Parsed.{ValueReader, ContentReader, content_at, descriptor_at, payload_in, parse, parse_content}
+use Rattle.amqp_decode.specs.Faults.{Fault, PayloadFault, fault_of_values, fault_of_payload, fault_of_byte, fault_of_map, fault_of_array, fault_of_shape, fault_of_content, fault_of_descriptor, fault_of_value, fault_in, fault_in_item, fault_around, content_fault, decode_fault, FailsBy}
 use Rattle.amqp_decode.specs.declared.payload_shape.PayloadShape.{PayloadShape}
 use Rattle.amqp_decode.proofs.CodeLemmas.{primitive-found, primitive-nonzero}
 
@@ -84,7 +84,7 @@ pub byte-fault : (d b : ℕ) (c : EncodingCodes) (s : List ℕ) → b ≡ code_o
 byte-fault d b c s is ok = rw (is, primitive-nonzero c ok, primitive-found c ok) refl
 
 -- The values one after another.
-module _ (c : Fault) (f : FrameReader) where
+module _ (c : Fault) (f : ValueReader) where
   pub values-step : (n i : ℕ) (s rest : List ℕ) (t : Tree) → i < n → f s ≡ Some (t, rest) → fault_of_values c f (n - (i + 1)) rest ≡ fault_of_values c f (n - i) s
   values-step n i s rest t lt e =
       let same : n - i ≡ suc (n - (i + 1)) = omega arith in
@@ -122,7 +122,7 @@ module _ (c : Fault) (f : FrameReader) where
       sym (ap (λ m. fault_of_values c f m s) same ∙ both)
 
 -- A map with an even count.
-pub even-map : (c : Fault) (f : FrameReader) (n : ℕ) (s : List ℕ) → n % 2 ≡ 0 → fault_of_values c f n s ≡ fault_of_map c f (n, s)
+pub even-map : (c : Fault) (f : ValueReader) (n : ℕ) (s : List ℕ) → n % 2 ≡ 0 → fault_of_values c f n s ≡ fault_of_map c f (n, s)
 even-map c f n s e = rw e refl
 
 -- The elements of an array, given its constructor.

@@ -5,7 +5,7 @@ pub mod Steps
 pub mod Counts
 pub mod FaultLemmas
 pub mod Finds
-pub mod ScalarFramed
+pub mod ScalarValues
 pub mod Means
 pub mod SkipScalars
 pub mod Whole
@@ -21,9 +21,9 @@ pub mod MapForms
 pub mod ArrayForms
 pub mod DescriptorForms
 pub mod OwnImage
-pub mod Framed
+pub mod EncodedValues
 pub mod ScalarBytes
-pub mod Encodes
+pub mod OwnEncoding
 pub mod PlaceLemmas
 pub mod Worked
 pub mod FaultRows

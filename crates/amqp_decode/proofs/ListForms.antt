@@ -6,8 +6,8 @@ use Rattle.amqp_data.specs.declared.format_code.EncodingCodes.TheVariants as cod
 use Rattle.amqp_frame.specs.Code.{category}
 use Rattle.amqp_ser.specs.Tree.{Tree}
 use Rattle.amqp_decode.specs.Codes.{is_primitive, shape_of_code}
-use Rattle.amqp_decode.specs.Spells.{IsPayload}
-use Rattle.amqp_decode.specs.Parsed.{FrameReader, ContentReader, content_at, sized_at, number_at, counted_in}
+use Rattle.amqp_decode.specs.Encodes.{IsPayload}
+use Rattle.amqp_decode.specs.Parsed.{ValueReader, ContentReader, content_at, sized_at, number_at, counted_in}
 use Rattle.amqp_decode.specs.Prefix.{HasCountOf, IsListOf}
 use Rattle.amqp_decode.specs.declared.payload_shape.Count.{Count}
 use Rattle.amqp_decode.specs.declared.payload_shape.Count.TheVariants.{Absent, OneByte, FourBytes}
@@ -15,10 +15,10 @@ use Rattle.amqp_decode.specs.declared.payload_shape.PayloadShape.TheVariants as 
 use Rattle.amqp_decode.proofs.CodeLemmas.{primitive-found, primitive-nonzero}
 use Rattle.amqp_decode.proofs.Finds.{payload-found}
 
-list_framed : (c : EncodingCodes) (k : Count) (s content rest : List ℕ) (n : ℕ) (body : List ℕ) → IsTrue (is_primitive c)
+list_as_value : (c : EncodingCodes) (k : Count) (s content rest : List ℕ) (n : ℕ) (body : List ℕ) → IsTrue (is_primitive c)
     → shape_of_code c ≡ shape.List k → content_at (category (code_of c)) s ≡ Some (content, rest) → counted_in k content ≡ Some (n, body)
     → IsListOf (code_of c ∷ s) rest n body
-list_framed c k s content rest n body ok is found counted f h ts all = rw (primitive-nonzero c ok, primitive-found c ok, found, is, counted, all) refl
+list_as_value c k s content rest n body ok is found counted f h ts all = rw (primitive-nonzero c ok, primitive-found c ok, found, is, counted, all) refl
 
 list_counted : (c : EncodingCodes) (k : Count) (s content rest : List ℕ) (n : ℕ) (body : List ℕ) → IsTrue (is_primitive c)
     → shape_of_code c ≡ shape.List k → content_at (category (code_of c)) s ≡ Some (content, rest) → counted_in k content ≡ Some (n, body)
@@ -27,17 +27,17 @@ list_counted c k s content rest n body ok is found counted e f a h = rw (primiti
 
 pub list_none : (s : List ℕ) → IsListOf (69 ∷ s) s 0 []
 unfolding category counted_in
-list_none s = list_framed code.List0 Absent s [] s 0 [] refl refl (payload-found (IsPayload.of_width []) s) refl
+list_none s = list_as_value code.List0 Absent s [] s 0 [] refl refl (payload-found (IsPayload.of_width []) s) refl
 
 pub list_short : (s content rest : List ℕ) (n : ℕ) (body : List ℕ) → sized_at false s ≡ Some (content, rest) → number_at false content ≡ Some (n, body)
     → IsListOf (192 ∷ s) rest n body
 unfolding category counted_in
-list_short s content rest n body found counted = list_framed code.List8 OneByte s content rest n body refl refl found counted
+list_short s content rest n body found counted = list_as_value code.List8 OneByte s content rest n body refl refl found counted
 
 pub list_long : (s content rest : List ℕ) (n : ℕ) (body : List ℕ) → sized_at true s ≡ Some (content, rest) → number_at true content ≡ Some (n, body)
     → IsListOf (208 ∷ s) rest n body
 unfolding category counted_in
-list_long s content rest n body found counted = list_framed code.List32 FourBytes s content rest n body refl refl found counted
+list_long s content rest n body found counted = list_as_value code.List32 FourBytes s content rest n body refl refl found counted
 
 pub count_none : (s : List ℕ) → HasCountOf (69 ∷ s) 0 []
 unfolding category counted_in

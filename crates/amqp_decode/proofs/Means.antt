@@ -14,8 +14,8 @@ use Rattle.amqp_value.specs.Image.{insert_tree}
 use Rattle.amqp_value.proofs.SameLemmas.{numbers}
 use Rattle.amqp_decode.specs.Codes.{is_primitive, primitive_of, shape_of_code}
 use Rattle.amqp_decode.specs.Scalars.{and_then, scalar_in, scalar_tree}
-use Rattle.amqp_decode.specs.Spells.{IsNumber, IsPayload, IsCounted, IsDescriptor, descriptor_scalar, Spells, SpellsContent, SpellsElements, SpellsItems, SpellsEntries}
-use Rattle.amqp_decode.specs.Parsed.{FrameReader, ContentReader, cut, number_at, sized_at, content_at, counted_in, tree_descriptor, parsed_descriptor, descriptor_at, gather, insert, all, parse_list, parse_map, items_in, parse_array, payload_in, with_rest, content_in, content_of, parse_described, frame_in, parse, parse_content}
+use Rattle.amqp_decode.specs.Encodes.{IsNumber, IsPayload, IsCounted, IsDescriptor, descriptor_scalar, Encodes, EncodesContent, EncodesElements, EncodesItems, EncodesEntries}
+use Rattle.amqp_decode.specs.Parsed.{ValueReader, ContentReader, cut, number_at, sized_at, content_at, counted_in, tree_descriptor, parsed_descriptor, descriptor_at, gather, insert, all, parse_list, parse_map, items_in, parse_array, payload_in, with_rest, content_in, content_of, parse_described, value_in_bytes, parse, parse_content}
 use Rattle.amqp_decode.specs.declared.payload_shape.Count.{Count}
 use Rattle.amqp_decode.specs.declared.payload_shape.Count.TheVariants.{Absent, OneByte, FourBytes}
 use Rattle.amqp_decode.specs.declared.payload_shape.PayloadShape.{PayloadShape}
@@ -179,10 +179,10 @@ descriptor-says (byte ∷ s) =
     under-code IsDescriptor byte c s _ named.0
     (says-and_then (IsPayload (category (code_of c))) (λ b d. IsDescriptor (code_of c ∷ b) d) s (content_at (category (code_of c)) s) (parsed_descriptor c) (payload-says (category (code_of c)) s)
     (λ p a e h. and_then-says (Says (λ b d. IsDescriptor (code_of c ∷ b) d) s) (and_then (and_then (scalar_in c p.0) scalar_tree) tree_descriptor) (λ d. Some (d, p.1)) tt
-    (λ d found. (a, e, IsDescriptor.spelled c a p.0 d named.1 h (descriptor-from (scalar_in c p.0) d found))))))
+    (λ d found. (a, e, IsDescriptor.encoded c a p.0 d named.1 h (descriptor-from (scalar_in c p.0) d found))))))
 
 -- A number of values that `f` reads, one after another.
-module _ (f : FrameReader) (S : List ℕ → Tree → Type 0) (E : ℕ → List ℕ → List Tree → Type 0)
+module _ (f : ValueReader) (S : List ℕ → Tree → Type 0) (E : ℕ → List ℕ → List Tree → Type 0)
     (nil : E 0 [] []) (more : (n : ℕ) (a b : List ℕ) (t : Tree) (ts : List Tree) → S a t → E n b ts → E (suc n) (a ++ b) (t ∷ ts)) (sound : (s : List ℕ) → Says S s (f s)) where
   abbrev Gathers : ℕ → List Tree → List ℕ → List Tree → Type 0
   Gathers n done b us = (ts : List Tree) × (us ≡ done ++ ts) × E n b ts
@@ -206,134 +206,134 @@ module _ (f : FrameReader) (S : List ℕ → Tree → Type 0) (E : ℕ → List 
   pub gathered-says : (n : ℕ) (body : List ℕ) (ts : List Tree) → and_then (gather f n body []) all ≡ Some ts → E n body ts
   gathered-says n body ts found = fills n body (gather f n body []) (gather-says n body []) ts found
 
-module _ (d : ℕ) (f : FrameReader) (sound : (s : List ℕ) → Says (Spells d) s (f s)) where
+module _ (d : ℕ) (f : ValueReader) (sound : (s : List ℕ) → Says (Encodes d) s (f s)) where
   abbrev Inserts : ℕ → Pairs → List ℕ → Pairs → Type 0
-  Inserts n done b ps = SpellsEntries d n b done ps
+  Inserts n done b ps = EncodesEntries d n b done ps
 
   -- A value after a key.
   abbrev AfterKey : Pairs → ℕ → Tree → List ℕ → Pairs → Type 0
-  AfterKey done n k b ps = (v : Tree) × (prefix back : List ℕ) × (b ≡ prefix ++ back) × Spells d prefix v × SpellsEntries d n back (insert_tree done k v) ps
+  AfterKey done n k b ps = (v : Tree) × (prefix back : List ℕ) × (b ≡ prefix ++ back) × Encodes d prefix v × EncodesEntries d n back (insert_tree done k v) ps
 
   value-says : (n : ℕ) → ((s : List ℕ) (done : Pairs) → Says (Inserts n done) s (insert f n s done)) → (s : List ℕ) (done : Pairs) (k : Tree)
       → Says (AfterKey done n k) s (and_then (f s) (λ v. insert f n v.1 (insert_tree done k v.0)))
   value-says n rest s done k =
-      says-and_then (Spells d) (AfterKey done n k) s (f s) (λ v. insert f n v.1 (insert_tree done k v.0)) (sound s)
+      says-and_then (Encodes d) (AfterKey done n k) s (f s) (λ v. insert f n v.1 (insert_tree done k v.0)) (sound s)
       (λ v a e sv. says-under (Inserts n (insert_tree done k v.0)) (AfterKey done n k) s a v.1 (insert f n v.1 (insert_tree done k v.0)) e (rest v.1 (insert_tree done k v.0))
       (λ b ps w. (v.0, a, b, refl, sv, w)))
 
   insert-says : (n : ℕ) (s : List ℕ) (done : Pairs) → Says (Inserts n done) s (insert f n s done)
-  insert-says zero s done = ([], refl, SpellsEntries.no_entry d done)
+  insert-says zero s done = ([], refl, EncodesEntries.no_entry d done)
   insert-says (suc n) s done =
-      says-and_then (Spells d) (Inserts (suc n) done) s (f s) (λ k. and_then (f k.1) (λ v. insert f n v.1 (insert_tree done k.0 v.0))) (sound s)
+      says-and_then (Encodes d) (Inserts (suc n) done) s (f s) (λ k. and_then (f k.1) (λ v. insert f n v.1 (insert_tree done k.0 v.0))) (sound s)
       (λ k a e sk. says-under (AfterKey done n k.0) (Inserts (suc n) done) s a k.1 (and_then (f k.1) (λ v. insert f n v.1 (insert_tree done k.0 v.0))) e (value-says n (insert-says n) k.1 done k.0)
-      (λ b ps w. subst (λ z. SpellsEntries d (suc n) (a ++ z) done ps) (sym w.3) (SpellsEntries.entry d n a w.1 w.2 k.0 w.0 done ps sk w.4 w.5)))
+      (λ b ps w. subst (λ z. EncodesEntries d (suc n) (a ++ z) done ps) (sym w.3) (EncodesEntries.entry d n a w.1 w.2 k.0 w.0 done ps sk w.4 w.5)))
 
-  fills-map : (n : ℕ) (body : List ℕ) (o : Option (Pairs × List ℕ)) → Says (Inserts n no_pairs) body o → (ps : Pairs) → and_then o all ≡ Some ps → SpellsEntries d n body no_pairs ps
+  fills-map : (n : ℕ) (body : List ℕ) (o : Option (Pairs × List ℕ)) → Says (Inserts n no_pairs) body o → (ps : Pairs) → and_then o all ≡ Some ps → EncodesEntries d n body no_pairs ps
   fills-map n body None h ps found = absurd cc
   fills-map n body (Some (qs, [])) h ps found =
       let whole : body ≡ h.0 = h.1 ∙ append-nil h.0 in
       let same : qs ≡ ps = cc in
-      subst (λ z. SpellsEntries d n z no_pairs ps) (sym whole) (subst (λ z. SpellsEntries d n h.0 no_pairs z) same h.2)
+      subst (λ z. EncodesEntries d n z no_pairs ps) (sym whole) (subst (λ z. EncodesEntries d n h.0 no_pairs z) same h.2)
   fills-map n body (Some (qs, x ∷ xs)) h ps found = absurd cc
 
   -- The entries fill the body.
-  pub inserted-says : (n : ℕ) (body : List ℕ) (ps : Pairs) → and_then (insert f n body no_pairs) all ≡ Some ps → SpellsEntries d n body no_pairs ps
+  pub inserted-says : (n : ℕ) (body : List ℕ) (ps : Pairs) → and_then (insert f n body no_pairs) all ≡ Some ps → EncodesEntries d n body no_pairs ps
   inserted-says n body ps found = fills-map n body (insert f n body no_pairs) (insert-says n body no_pairs) ps found
 
-module _ (d : ℕ) (f : FrameReader) (h : ContentReader) (frames : (s : List ℕ) → Says (Spells d) s (f s)) (contents : (c : EncodingCodes) (s : List ℕ) → IfFound (SpellsContent d c s) (h c s)) where
+module _ (d : ℕ) (f : ValueReader) (h : ContentReader) (encoded_values : (s : List ℕ) → Says (Encodes d) s (f s)) (contents : (c : EncodingCodes) (s : List ℕ) → IfFound (EncodesContent d c s) (h c s)) where
   -- A payload whose content encodes the tree.
   abbrev IsItem : EncodingCodes → List ℕ → Tree → Type 0
-  IsItem c a t = (content : List ℕ) × IsPayload (category (code_of c)) a content × SpellsContent d c content t
+  IsItem c a t = (content : List ℕ) × IsPayload (category (code_of c)) a content × EncodesContent d c content t
 
   item-says : (c : EncodingCodes) (s : List ℕ) → Says (IsItem c) s (payload_in h c s)
   item-says c s =
       says-and_then (IsPayload (category (code_of c))) (IsItem c) s (content_at (category (code_of c)) s) (λ p. and_then (h c p.0) (with_rest p.1)) (payload-says (category (code_of c)) s)
       (λ p a e is. and_then-says (Says (IsItem c) s) (h c p.0) (with_rest p.1) tt
-      (λ t found. (a, e, (p.0, is, found-and_then (SpellsContent d c p.0) (h c p.0) (contents c p.0) t found))))
+      (λ t found. (a, e, (p.0, is, found-and_then (EncodesContent d c p.0) (h c p.0) (contents c p.0) t found))))
 
-  items-say : (c : EncodingCodes) (n : ℕ) (items : List ℕ) (ts : List Tree) → and_then (gather (payload_in h c) n items []) all ≡ Some ts → SpellsItems d c n items ts
-  items-say c = gathered-says (payload_in h c) (IsItem c) (SpellsItems d c) (SpellsItems.no_item d c)
-      (λ n a b t ts w rest. SpellsItems.item d c n a w.0 b t ts w.1 w.2 rest) (item-says c)
+  items-say : (c : EncodingCodes) (n : ℕ) (items : List ℕ) (ts : List Tree) → and_then (gather (payload_in h c) n items []) all ≡ Some ts → EncodesItems d c n items ts
+  items-say c = gathered-says (payload_in h c) (IsItem c) (EncodesItems d c) (EncodesItems.no_item d c)
+      (λ n a b t ts w rest. EncodesItems.item d c n a w.0 b t ts w.1 w.2 rest) (item-says c)
 
   module _ (c : EncodingCodes) (s : List ℕ) where
-    list-says : (count : Count) (p : ℕ × List ℕ) → shape_of_code c ≡ shape.List count → IsCounted count s p.0 p.1 → IfFound (SpellsContent (suc d) c s) (parse_list f p)
+    list-says : (count : Count) (p : ℕ × List ℕ) → shape_of_code c ≡ shape.List count → IsCounted count s p.0 p.1 → IfFound (EncodesContent (suc d) c s) (parse_list f p)
     list-says count p is counts =
-        and_then-says (IfFound (SpellsContent (suc d) c s)) (and_then (gather f p.0 p.1 []) all) (λ ts. Some (tree.list (trees_of ts))) tt
-        (λ ts found. SpellsContent.a_list d c count s p.0 p.1 ts is counts
-        (gathered-says f (Spells d) (SpellsElements d) (SpellsElements.no_element d) (SpellsElements.element d) frames p.0 p.1 ts found))
+        and_then-says (IfFound (EncodesContent (suc d) c s)) (and_then (gather f p.0 p.1 []) all) (λ ts. Some (tree.list (trees_of ts))) tt
+        (λ ts found. EncodesContent.a_list d c count s p.0 p.1 ts is counts
+        (gathered-says f (Encodes d) (EncodesElements d) (EncodesElements.no_element d) (EncodesElements.element d) encoded_values p.0 p.1 ts found))
 
-    map-says : (count : Count) (p : ℕ × List ℕ) → shape_of_code c ≡ shape.Map count → IsCounted count s p.0 p.1 → IfFound (SpellsContent (suc d) c s) (parse_map f p)
+    map-says : (count : Count) (p : ℕ × List ℕ) → shape_of_code c ≡ shape.Map count → IsCounted count s p.0 p.1 → IfFound (EncodesContent (suc d) c s) (parse_map f p)
     map-says count p is counts =
-        pick (IfFound (SpellsContent (suc d) c s)) (p.0 % 2 == 0) (and_then (and_then (insert f (p.0 / 2) p.1 no_pairs) all) (λ ps. Some (tree.map ps))) None
-        (λ even. and_then-says (IfFound (SpellsContent (suc d) c s)) (and_then (insert f (p.0 / 2) p.1 no_pairs) all) (λ ps. Some (tree.map ps)) tt
+        pick (IfFound (EncodesContent (suc d) c s)) (p.0 % 2 == 0) (and_then (and_then (insert f (p.0 / 2) p.1 no_pairs) all) (λ ps. Some (tree.map ps))) None
+        (λ even. and_then-says (IfFound (EncodesContent (suc d) c s)) (and_then (insert f (p.0 / 2) p.1 no_pairs) all) (λ ps. Some (tree.map ps)) tt
         (λ ps found. let two : p.0 ≡ 2 * (p.0 / 2) = omega (arith, numbers (p.0 % 2) 0 even) in
-        SpellsContent.a_map d c count s (p.0 / 2) p.1 ps is (subst (λ z. IsCounted count s z p.1) two counts) (inserted-says d f frames (p.0 / 2) p.1 ps found)))
+        EncodesContent.a_map d c count s (p.0 / 2) p.1 ps is (subst (λ z. IsCounted count s z p.1) two counts) (inserted-says d f encoded_values (p.0 / 2) p.1 ps found)))
         (λ _. tt)
 
     under-constructor : (count : Count) (n byte : ℕ) (items : List ℕ) → shape_of_code c ≡ shape.Array count → IsCounted count s n (byte ∷ items)
-        → IfFound (λ ts. SpellsContent (suc d) c s (tree.array (trees_of ts))) (and_then (primitive_of byte) (λ code. and_then (gather (payload_in h code) n items []) all))
+        → IfFound (λ ts. EncodesContent (suc d) c s (tree.array (trees_of ts))) (and_then (primitive_of byte) (λ code. and_then (gather (payload_in h code) n items []) all))
     under-constructor count n byte items is counts =
-        and_then-says (IfFound (λ ts. SpellsContent (suc d) c s (tree.array (trees_of ts)))) (primitive_of byte) (λ code. and_then (gather (payload_in h code) n items []) all) tt
+        and_then-says (IfFound (λ ts. EncodesContent (suc d) c s (tree.array (trees_of ts)))) (primitive_of byte) (λ code. and_then (gather (payload_in h code) n items []) all) tt
         (λ code found. let named = primitive-says byte code found in
         let begins = subst (λ z. IsCounted count s n (z ∷ items)) (sym named.0) counts in
         as_array code begins named.1 (and_then (gather (payload_in h code) n items []) all) refl)
       where
         as_array : (code : EncodingCodes) → IsCounted count s n (code_of code ∷ items) → IsTrue (is_primitive code)
-            → (o : Option (List Tree)) → and_then (gather (payload_in h code) n items []) all ≡ o → IfFound (λ ts. SpellsContent (suc d) c s (tree.array (trees_of ts))) o
+            → (o : Option (List Tree)) → and_then (gather (payload_in h code) n items []) all ≡ o → IfFound (λ ts. EncodesContent (suc d) c s (tree.array (trees_of ts))) o
         as_array code begins ok None e = tt
-        as_array code begins ok (Some ts) e = SpellsContent.an_array d c count s n code items ts is begins ok (items-say code n items ts e)
+        as_array code begins ok (Some ts) e = EncodesContent.an_array d c count s n code items ts is begins ok (items-say code n items ts e)
 
     array-items : (count : Count) (n : ℕ) (body : List ℕ) → shape_of_code c ≡ shape.Array count → IsCounted count s n body
-        → IfFound (λ ts. SpellsContent (suc d) c s (tree.array (trees_of ts))) (items_in h n body)
-    array-items count zero [] is counts = SpellsContent.a_bare_array d c count s is counts
+        → IfFound (λ ts. EncodesContent (suc d) c s (tree.array (trees_of ts))) (items_in h n body)
+    array-items count zero [] is counts = EncodesContent.a_bare_array d c count s is counts
     array-items count (suc n) [] is counts = tt
     array-items count n (byte ∷ items) is counts = under-constructor count n byte items is counts
 
-    array-says : (count : Count) (p : ℕ × List ℕ) → shape_of_code c ≡ shape.Array count → IsCounted count s p.0 p.1 → IfFound (SpellsContent (suc d) c s) (parse_array h p)
+    array-says : (count : Count) (p : ℕ × List ℕ) → shape_of_code c ≡ shape.Array count → IsCounted count s p.0 p.1 → IfFound (EncodesContent (suc d) c s) (parse_array h p)
     array-says count p is counts =
-        and_then-says (IfFound (SpellsContent (suc d) c s)) (items_in h p.0 p.1) (λ ts. Some (tree.array (trees_of ts))) tt
-        (λ ts found. found-and_then (λ us. SpellsContent (suc d) c s (tree.array (trees_of us))) (items_in h p.0 p.1) (array-items count p.0 p.1 is counts) ts found)
+        and_then-says (IfFound (EncodesContent (suc d) c s)) (items_in h p.0 p.1) (λ ts. Some (tree.array (trees_of ts))) tt
+        (λ ts found. found-and_then (λ us. EncodesContent (suc d) c s (tree.array (trees_of us))) (items_in h p.0 p.1) (array-items count p.0 p.1 is counts) ts found)
 
-    by_shape : (k : PayloadShape) → shape_of_code c ≡ k → IfFound (SpellsContent (suc d) c s) (content_in f h k c s)
+    by_shape : (k : PayloadShape) → shape_of_code c ≡ k → IfFound (EncodesContent (suc d) c s) (content_in f h k c s)
     by_shape shape.Described is = tt
-    by_shape shape.Scalar is = and_then-says (IfFound (SpellsContent (suc d) c s)) (scalar_in c s) scalar_tree tt (λ k found. SpellsContent.a_scalar d c s k is found)
-    by_shape (shape.List count) is = and_then-says (IfFound (SpellsContent (suc d) c s)) (counted_in count s) (parse_list f) tt (λ p found. list-says count p is (counted-says count s p found))
-    by_shape (shape.Map count) is = and_then-says (IfFound (SpellsContent (suc d) c s)) (counted_in count s) (parse_map f) tt (λ p found. map-says count p is (counted-says count s p found))
-    by_shape (shape.Array count) is = and_then-says (IfFound (SpellsContent (suc d) c s)) (counted_in count s) (parse_array h) tt (λ p found. array-says count p is (counted-says count s p found))
+    by_shape shape.Scalar is = and_then-says (IfFound (EncodesContent (suc d) c s)) (scalar_in c s) scalar_tree tt (λ k found. EncodesContent.a_scalar d c s k is found)
+    by_shape (shape.List count) is = and_then-says (IfFound (EncodesContent (suc d) c s)) (counted_in count s) (parse_list f) tt (λ p found. list-says count p is (counted-says count s p found))
+    by_shape (shape.Map count) is = and_then-says (IfFound (EncodesContent (suc d) c s)) (counted_in count s) (parse_map f) tt (λ p found. map-says count p is (counted-says count s p found))
+    by_shape (shape.Array count) is = and_then-says (IfFound (EncodesContent (suc d) c s)) (counted_in count s) (parse_array h) tt (λ p found. array-says count p is (counted-says count s p found))
 
-    pub content-says : IfFound (SpellsContent (suc d) c s) (content_of f h c s)
+    pub content-says : IfFound (EncodesContent (suc d) c s) (content_of f h c s)
     content-says = by_shape (shape_of_code c) refl
 
-  described-says : (s : List ℕ) → Says (λ b t. Spells (suc d) (0 ∷ b) t) s (and_then (descriptor_at s) (parse_described f))
+  described-says : (s : List ℕ) → Says (λ b t. Encodes (suc d) (0 ∷ b) t) s (and_then (descriptor_at s) (parse_described f))
   described-says s =
-      says-and_then IsDescriptor (λ b t. Spells (suc d) (0 ∷ b) t) s (descriptor_at s) (parse_described f) (descriptor-says s)
-      (λ l a e is. says-under (λ b t. (u : Tree) × (t ≡ tree.described l.0 u) × Spells d b u) (λ b t. Spells (suc d) (0 ∷ b) t) s a l.1 (parse_described f l) e
-      (says-and_then (Spells d) (λ b t. (u : Tree) × (t ≡ tree.described l.0 u) × Spells d b u) l.1 (f l.1) (λ r. Some (tree.described l.0 r.0, r.1)) (frames l.1)
+      says-and_then IsDescriptor (λ b t. Encodes (suc d) (0 ∷ b) t) s (descriptor_at s) (parse_described f) (descriptor-says s)
+      (λ l a e is. says-under (λ b t. (u : Tree) × (t ≡ tree.described l.0 u) × Encodes d b u) (λ b t. Encodes (suc d) (0 ∷ b) t) s a l.1 (parse_described f l) e
+      (says-and_then (Encodes d) (λ b t. (u : Tree) × (t ≡ tree.described l.0 u) × Encodes d b u) l.1 (f l.1) (λ r. Some (tree.described l.0 r.0, r.1)) (encoded_values l.1)
       (λ r b eb sp. (b, eb, (r.0, refl, sp))))
-      (λ b t w. subst (λ z. Spells (suc d) (0 ∷ (a ++ b)) z) (sym w.1) (Spells.described d a b l.0 w.0 is w.2)))
+      (λ b t w. subst (λ z. Encodes (suc d) (0 ∷ (a ++ b)) z) (sym w.1) (Encodes.described d a b l.0 w.0 is w.2)))
 
-  primitive-frame : (c : EncodingCodes) (s : List ℕ) → IsTrue (is_primitive c) → Says (λ b t. Spells (suc d) (code_of c ∷ b) t) s (payload_in (content_of f h) c s)
-  primitive-frame c s ok =
-      says-and_then (IsPayload (category (code_of c))) (λ b t. Spells (suc d) (code_of c ∷ b) t) s (content_at (category (code_of c)) s) (λ p. and_then (content_of f h c p.0) (with_rest p.1)) (payload-says (category (code_of c)) s)
-      (λ p a e is. and_then-says (Says (λ b t. Spells (suc d) (code_of c ∷ b) t) s) (content_of f h c p.0) (with_rest p.1) tt
-      (λ t found. (a, e, Spells.primitive (suc d) c a p.0 t ok is (found-and_then (SpellsContent (suc d) c p.0) (content_of f h c p.0) (content-says c p.0) t found))))
+  primitive-encoded : (c : EncodingCodes) (s : List ℕ) → IsTrue (is_primitive c) → Says (λ b t. Encodes (suc d) (code_of c ∷ b) t) s (payload_in (content_of f h) c s)
+  primitive-encoded c s ok =
+      says-and_then (IsPayload (category (code_of c))) (λ b t. Encodes (suc d) (code_of c ∷ b) t) s (content_at (category (code_of c)) s) (λ p. and_then (content_of f h c p.0) (with_rest p.1)) (payload-says (category (code_of c)) s)
+      (λ p a e is. and_then-says (Says (λ b t. Encodes (suc d) (code_of c ∷ b) t) s) (content_of f h c p.0) (with_rest p.1) tt
+      (λ t found. (a, e, Encodes.primitive (suc d) c a p.0 t ok is (found-and_then (EncodesContent (suc d) c p.0) (content_of f h c p.0) (content-says c p.0) t found))))
 
-  pub frame-says : (s : List ℕ) → Says (Spells (suc d)) s (frame_in f h s)
-  frame-says [] = tt
-  frame-says (byte ∷ s) =
-      pick (Says (Spells (suc d)) (byte ∷ s)) (byte == 0) (and_then (descriptor_at s) (parse_described f)) (and_then (primitive_of byte) (λ code. payload_in (content_of f h) code s))
-      (λ e. subst (λ k. Says (Spells (suc d)) (k ∷ s) (and_then (descriptor_at s) (parse_described f))) (sym (numbers byte 0 e)) (optionally_described (Spells (suc d)) 0 s _ (described-says s)))
-      (λ _. and_then-says (Says (Spells (suc d)) (byte ∷ s)) (primitive_of byte) (λ code. payload_in (content_of f h) code s) tt
+  pub encoded-says : (s : List ℕ) → Says (Encodes (suc d)) s (value_in_bytes f h s)
+  encoded-says [] = tt
+  encoded-says (byte ∷ s) =
+      pick (Says (Encodes (suc d)) (byte ∷ s)) (byte == 0) (and_then (descriptor_at s) (parse_described f)) (and_then (primitive_of byte) (λ code. payload_in (content_of f h) code s))
+      (λ e. subst (λ k. Says (Encodes (suc d)) (k ∷ s) (and_then (descriptor_at s) (parse_described f))) (sym (numbers byte 0 e)) (optionally_described (Encodes (suc d)) 0 s _ (described-says s)))
+      (λ _. and_then-says (Says (Encodes (suc d)) (byte ∷ s)) (primitive_of byte) (λ code. payload_in (content_of f h) code s) tt
       (λ c is. let named = primitive-says byte c is in
-      under-code (Spells (suc d)) byte c s _ named.0 (primitive-frame c s named.1)))
+      under-code (Encodes (suc d)) byte c s _ named.0 (primitive-encoded c s named.1)))
 
 mutual
   unfolding parse parse_content
 
-  pub parse-says : (d : ℕ) (s : List ℕ) → Says (Spells d) s (parse d s)
+  pub parse-says : (d : ℕ) (s : List ℕ) → Says (Encodes d) s (parse d s)
   parse-says zero s = tt
-  parse-says (suc d) s = frame-says d (parse d) (parse_content d) (parse-says d) (parse_content-says d) s
+  parse-says (suc d) s = encoded-says d (parse d) (parse_content d) (parse-says d) (parse_content-says d) s
 
-  parse_content-says : (d : ℕ) (c : EncodingCodes) (s : List ℕ) → IfFound (SpellsContent d c s) (parse_content d c s)
+  parse_content-says : (d : ℕ) (c : EncodingCodes) (s : List ℕ) → IfFound (EncodesContent d c s) (parse_content d c s)
   parse_content-says zero c s = tt
   parse_content-says (suc d) c s = content-says d (parse d) (parse_content d) (parse-says d) (parse_content-says d) c s

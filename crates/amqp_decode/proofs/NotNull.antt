@@ -5,11 +5,11 @@ use Rattle.amqp_data.specs.declared.format_code.EncodingCodes.{EncodingCodes}
 use Rattle.amqp_data.specs.declared.format_code.EncodingCodes.TheVariants as code
 use Rattle.amqp_ser.specs.Tree as tree
 use Rattle.amqp_ser.specs.Tree.{Tree, scalar}
-use Rattle.amqp_decode.specs.Parsed.{FrameReader, ContentReader, frame_in, parse, parse_content}
+use Rattle.amqp_decode.specs.Parsed.{ValueReader, ContentReader, value_in_bytes, parse, parse_content}
 use Rattle.amqp_decode.proofs.CodeLemmas.{primitive-says}
 use Rattle.amqp_decode.proofs.Classes.{class_of, class_of_code}
 use Rattle.amqp_decode.proofs.ClassLemmas.{class_says}
-use Rattle.amqp_decode.proofs.Levels.{level_in, described_in, parse_frame}
+use Rattle.amqp_decode.proofs.Levels.{level_in, described_in, parse_value}
 
 null_code : (c : EncodingCodes) → class_of_code c ≡ 0 → code_of c ≡ 64
 null_code code.Null e = refl
@@ -54,7 +54,7 @@ null_code code.Array8 e = absurd cc
 null_code code.Array32 e = absurd cc
 
 -- Another code than that of null gives another tree.
-not_null_in : (f : FrameReader) (h : ContentReader) (c : ℕ) (s : List ℕ) (t : Tree) (r : List ℕ) → (c ≡ 64 → ⊥) → frame_in f h (c ∷ s) ≡ Some (t, r) → t ≡ scalar tree.null → ⊥
+not_null_in : (f : ValueReader) (h : ContentReader) (c : ℕ) (s : List ℕ) (t : Tree) (r : List ℕ) → (c ≡ 64 → ⊥) → value_in_bytes f h (c ∷ s) ≡ Some (t, r) → t ≡ scalar tree.null → ⊥
 not_null_in f h zero s t r other e null =
     let d = described_in f h s t r e in
     let no : tree.described d.0 d.2 ≡ scalar tree.null = sym d.5 ∙ null in
@@ -66,4 +66,4 @@ not_null_in f h (suc c) s t r other e null =
     other (sym is ∙ null_code l.0 kind)
 
 pub not_null : (d c : ℕ) (s : List ℕ) (t : Tree) (r : List ℕ) → (c ≡ 64 → ⊥) → parse (suc d) (c ∷ s) ≡ Some (t, r) → t ≡ scalar tree.null → ⊥
-not_null d c s t r other e = not_null_in (parse d) (parse_content d) c s t r other (sym (parse_frame d (c ∷ s)) ∙ e)
+not_null d c s t r other e = not_null_in (parse d) (parse_content d) c s t r other (sym (parse_value d (c ∷ s)) ∙ e)

@@ -9,7 +9,7 @@ use Rattle.amqp_value.specs.AsMap.{read_as_map, each_as_map, pairs_as_map}
 use Rattle.amqp_value.specs.Image.{image, insert_tree}
 use Rattle.amqp_value.specs.Plain.{IsPlain, ArePlain, HasPlainPairs, LacksImage}
 use Rattle.amqp_value.proofs.ImageLemmas.{image-plain}
-use Rattle.amqp_decode.specs.Spells.{Spells, SpellsContent, SpellsElements, SpellsItems, SpellsEntries}
+use Rattle.amqp_decode.specs.Encodes.{Encodes, EncodesContent, EncodesElements, EncodesItems, EncodesEntries}
 
 -- A plain tree without variants.
 abbrev Stays : Tree → Type 0
@@ -54,43 +54,43 @@ module _ (k v : Tree) (hk : Stays k) (hv : Stays v) where
   stay-inserted (pair l w ps) h = stay-either (same_tree k l) l w ps refl h (stay-inserted ps h.3)
 
 mutual
-  spelled-stays : {d : ℕ} {s : List ℕ} {t : Tree} → Spells d s t → Stays t
-  spelled-stays (Spells.primitive d c p s t ok is h) = content-stays h
-  spelled-stays (Spells.described d a b l t is sp) =
-      let h = spelled-stays sp in
+  encoded-stays : {d : ℕ} {s : List ℕ} {t : Tree} → Encodes d s t → Stays t
+  encoded-stays (Encodes.primitive d c p s t ok is h) = content-stays h
+  encoded-stays (Encodes.described d a b l t is sp) =
+      let h = encoded-stays sp in
       (h.0, ap (tree.described l) h.1)
 
-  content-stays : {d : ℕ} {c : EncodingCodes} {s : List ℕ} {t : Tree} → SpellsContent d c s t → Stays t
-  content-stays (SpellsContent.a_scalar d c s x shape is) = (tt, refl)
-  content-stays (SpellsContent.a_list d c k s n body ts shape is h) =
+  content-stays : {d : ℕ} {c : EncodingCodes} {s : List ℕ} {t : Tree} → EncodesContent d c s t → Stays t
+  content-stays (EncodesContent.a_scalar d c s x shape is) = (tt, refl)
+  content-stays (EncodesContent.a_list d c k s n body ts shape is h) =
       let e = elements-stay h in
       (e.0, ap tree.list e.1)
-  content-stays (SpellsContent.a_map d c k s n body ps shape is h) =
+  content-stays (EncodesContent.a_map d c k s n body ps shape is h) =
       let e = entries-stay h tt in
       (plain-pairs ps e, ap tree.map (same-pairs ps e))
-  content-stays (SpellsContent.a_bare_array d c k s shape is) = (tt, refl)
-  content-stays (SpellsContent.an_array d c k s n constructor body ts shape is ok h) =
+  content-stays (EncodesContent.a_bare_array d c k s shape is) = (tt, refl)
+  content-stays (EncodesContent.an_array d c k s n constructor body ts shape is ok h) =
       let e = items-stay h in
       (e.0, ap tree.array e.1)
 
-  elements-stay : {d n : ℕ} {s : List ℕ} {ts : List Tree} → SpellsElements d n s ts → AllStay (trees_of ts)
-  elements-stay (SpellsElements.no_element d) = (tt, refl)
-  elements-stay (SpellsElements.element d n a b t ts h hs) =
-      let x = spelled-stays h in
+  elements-stay : {d n : ℕ} {s : List ℕ} {ts : List Tree} → EncodesElements d n s ts → AllStay (trees_of ts)
+  elements-stay (EncodesElements.no_element d) = (tt, refl)
+  elements-stay (EncodesElements.element d n a b t ts h hs) =
+      let x = encoded-stays h in
       let xs = elements-stay hs in
       ((x.0, xs.0), λ i. more (x.1 i) (xs.1 i))
 
-  items-stay : {d : ℕ} {c : EncodingCodes} {n : ℕ} {s : List ℕ} {ts : List Tree} → SpellsItems d c n s ts → AllStay (trees_of ts)
-  items-stay (SpellsItems.no_item d c) = (tt, refl)
-  items-stay (SpellsItems.item d c n p content b t ts is h hs) =
+  items-stay : {d : ℕ} {c : EncodingCodes} {n : ℕ} {s : List ℕ} {ts : List Tree} → EncodesItems d c n s ts → AllStay (trees_of ts)
+  items-stay (EncodesItems.no_item d c) = (tt, refl)
+  items-stay (EncodesItems.item d c n p content b t ts is h hs) =
       let x = content-stays h in
       let xs = items-stay hs in
       ((x.0, xs.0), λ i. more (x.1 i) (xs.1 i))
 
-  entries-stay : {d n : ℕ} {s : List ℕ} {done ps : Pairs} → SpellsEntries d n s done ps → PairsStay done → PairsStay ps
-  entries-stay (SpellsEntries.no_entry d done) h = h
-  entries-stay (SpellsEntries.entry d n a b rest k v done ps sk sv se) h =
-      entries-stay se (stay-inserted k v (spelled-stays sk) (spelled-stays sv) done h)
+  entries-stay : {d n : ℕ} {s : List ℕ} {done ps : Pairs} → EncodesEntries d n s done ps → PairsStay done → PairsStay ps
+  entries-stay (EncodesEntries.no_entry d done) h = h
+  entries-stay (EncodesEntries.entry d n a b rest k v done ps sk sv se) h =
+      entries-stay se (stay-inserted k v (encoded-stays sk) (encoded-stays sv) done h)
 
-pub spelled-own_image : {d : ℕ} {s : List ℕ} {t : Tree} → Spells d s t → image t ≡ t
-spelled-own_image {d} {s} {t} sp = own t (spelled-stays sp)
+pub encoded-own_image : {d : ℕ} {s : List ℕ} {t : Tree} → Encodes d s t → image t ≡ t
+encoded-own_image {d} {s} {t} sp = own t (encoded-stays sp)

@@ -23,7 +23,7 @@ use Rattle.amqp_ser.specs.Writable.{scalar_fits, descriptor_fits}
 use Rattle.amqp_ser.specs.Encoding.{descriptor_form}
 use Rattle.amqp_decode.specs.Codes.{is_primitive, shape_of_code}
 use Rattle.amqp_decode.specs.Scalars.{scalar_from, single, exact, character, is_scalar_value, scalar_in}
-use Rattle.amqp_decode.specs.Spells.{IsNumber, IsPayload, IsDescriptor, Spells, SpellsContent}
+use Rattle.amqp_decode.specs.Encodes.{IsNumber, IsPayload, IsDescriptor, Encodes, EncodesContent}
 use Rattle.amqp_decode.specs.declared.payload_shape.PayloadShape.TheVariants as shape
 use Rattle.amqp_decode.proofs.Means.{pick, is_number}
 
@@ -136,8 +136,8 @@ scalar-parse_content (string bs) r ok = (bs, IsPayload.of_four_bytes (to_be_byte
 scalar-parse_content (symbol bs) r ok = (bs, IsPayload.of_four_bytes (to_be_bytes w32 (length bs)) bs (long-number bs ok), refl, rw (is_utf8-from_IsUtf8 bs r) refl)
 
 -- A code, a payload and its content encode the scalar.
-pub as-frame : (d : ℕ) (c : EncodingCodes) (p : List ℕ) (s : Scalar) → IsTrue (is_primitive c) → HeldBy c p s → Spells (suc d) (code_of c ∷ p) (tree.scalar s)
-as-frame d c p s ok h = Spells.primitive (suc d) c p h.0 (tree.scalar s) ok h.1 (SpellsContent.a_scalar d c h.0 s h.2 h.3)
+pub as-encoded : (d : ℕ) (c : EncodingCodes) (p : List ℕ) (s : Scalar) → IsTrue (is_primitive c) → HeldBy c p s → Encodes (suc d) (code_of c ∷ p) (tree.scalar s)
+as-encoded d c p s ok h = Encodes.primitive (suc d) c p h.0 (tree.scalar s) ok h.1 (EncodesContent.a_scalar d c h.0 s h.2 h.3)
 
 pub widest-code : (s : Scalar) → code_of (widest s) ≡ scalar_code s
 widest-code null = refl
@@ -186,12 +186,12 @@ widest-primitive (string bs) = refl
 widest-primitive (symbol bs) = refl
 
 -- The form of a scalar outside an array.
-as-widest : (d : ℕ) (s : Scalar) → IsRangedScalar s → scalar_fits s ≡ true → Spells (suc d) (scalar_code s ∷ scalar_payload s) (tree.scalar s)
+as-widest : (d : ℕ) (s : Scalar) → IsRangedScalar s → scalar_fits s ≡ true → Encodes (suc d) (scalar_code s ∷ scalar_payload s) (tree.scalar s)
 as-widest d s r ok =
-    subst (λ n. Spells (suc d) (n ∷ scalar_payload s) (tree.scalar s)) (widest-code s) (as-frame d (widest s) (scalar_payload s) s (widest-primitive s) (scalar-parse_content s r ok))
+    subst (λ n. Encodes (suc d) (n ∷ scalar_payload s) (tree.scalar s)) (widest-code s) (as-encoded d (widest s) (scalar_payload s) s (widest-primitive s) (scalar-parse_content s r ok))
 
 abbrev Formed : ℕ → Scalar → List ℕ → Type 0
-Formed d s p = Spells (suc d) p (tree.scalar s)
+Formed d s p = Encodes (suc d) p (tree.scalar s)
 
 zero-from : (n : ℕ) → (n == 0) ≡ true → 0 ≡ n
 zero-from n e = grind (arith, nat_tests)
@@ -216,41 +216,41 @@ signed-small z e k =
 short-sized : (bs : List ℕ) → IsPayload OneByteSize (length bs ∷ bs) bs
 short-sized bs = IsPayload.of_one_byte bs
 
-pub scalar-bytes : (d : ℕ) (s : Scalar) → IsRangedScalar s → scalar_fits s ≡ true → Spells (suc d) (scalar_form s) (tree.scalar s)
+pub scalar-bytes : (d : ℕ) (s : Scalar) → IsRangedScalar s → scalar_fits s ≡ true → Encodes (suc d) (scalar_form s) (tree.scalar s)
 unfolding category scalar_in
-scalar-bytes d (bool true) r ok = as-frame d code.BooleanTrue [] (bool true) refl (fixed code.BooleanTrue [] (bool true) refl refl refl)
-scalar-bytes d (bool false) r ok = as-frame d code.BooleanFalse [] (bool false) refl (fixed code.BooleanFalse [] (bool false) refl refl refl)
+scalar-bytes d (bool true) r ok = as-encoded d code.BooleanTrue [] (bool true) refl (fixed code.BooleanTrue [] (bool true) refl refl refl)
+scalar-bytes d (bool false) r ok = as-encoded d code.BooleanFalse [] (bool false) refl (fixed code.BooleanFalse [] (bool false) refl refl refl)
 scalar-bytes d (uint n) r ok =
     pick (Formed d (uint n)) (n == 0) _ _
-    (λ e. as-frame d code.Uint0 [] (uint n) refl (fixed code.Uint0 [] (uint n) refl refl (ap (λ m. Some (uint m)) (zero-from n e))))
+    (λ e. as-encoded d code.Uint0 [] (uint n) refl (fixed code.Uint0 [] (uint n) refl refl (ap (λ m. Some (uint m)) (zero-from n e))))
     (λ _. pick (Formed d (uint n)) (nat_lt n 256) _ _
-    (λ e. as-frame d code.SmallUint (to_be_bytes w8 n) (uint n) refl (fixed code.SmallUint (to_be_bytes w8 n) (uint n) refl refl (ap (scalar_from uint) (one-byte n (small-from n e)))))
+    (λ e. as-encoded d code.SmallUint (to_be_bytes w8 n) (uint n) refl (fixed code.SmallUint (to_be_bytes w8 n) (uint n) refl refl (ap (scalar_from uint) (one-byte n (small-from n e)))))
     (λ _. as-widest d (uint n) r ok))
 scalar-bytes d (ulong n) r ok =
     pick (Formed d (ulong n)) (n == 0) _ _
-    (λ e. as-frame d code.Ulong0 [] (ulong n) refl (fixed code.Ulong0 [] (ulong n) refl refl (ap (λ m. Some (ulong m)) (zero-from n e))))
+    (λ e. as-encoded d code.Ulong0 [] (ulong n) refl (fixed code.Ulong0 [] (ulong n) refl refl (ap (λ m. Some (ulong m)) (zero-from n e))))
     (λ _. pick (Formed d (ulong n)) (nat_lt n 256) _ _
-    (λ e. as-frame d code.SmallUlong (to_be_bytes w8 n) (ulong n) refl (fixed code.SmallUlong (to_be_bytes w8 n) (ulong n) refl refl (ap (scalar_from ulong) (one-byte n (small-from n e)))))
+    (λ e. as-encoded d code.SmallUlong (to_be_bytes w8 n) (ulong n) refl (fixed code.SmallUlong (to_be_bytes w8 n) (ulong n) refl refl (ap (scalar_from ulong) (one-byte n (small-from n e)))))
     (λ _. as-widest d (ulong n) r ok))
 scalar-bytes d (int z) r ok =
     pick (Formed d (int z)) (is_small z) _ _
-    (λ e. as-frame d code.SmallInt (signed_bytes w8 z) (int z) refl (fixed code.SmallInt (signed_bytes w8 z) (int z) refl refl (signed-small z e int)))
+    (λ e. as-encoded d code.SmallInt (signed_bytes w8 z) (int z) refl (fixed code.SmallInt (signed_bytes w8 z) (int z) refl refl (signed-small z e int)))
     (λ _. as-widest d (int z) r ok)
 scalar-bytes d (long z) r ok =
     pick (Formed d (long z)) (is_small z) _ _
-    (λ e. as-frame d code.SmallLong (signed_bytes w8 z) (long z) refl (fixed code.SmallLong (signed_bytes w8 z) (long z) refl refl (signed-small z e long)))
+    (λ e. as-encoded d code.SmallLong (signed_bytes w8 z) (long z) refl (fixed code.SmallLong (signed_bytes w8 z) (long z) refl refl (signed-small z e long)))
     (λ _. as-widest d (long z) r ok)
 scalar-bytes d (binary bs) r ok =
     pick (Formed d (binary bs)) (is_short (length bs)) _ _
-    (λ _. as-frame d code.Vbin8 (length bs ∷ bs) (binary bs) refl (bs, short-sized bs, refl, refl))
+    (λ _. as-encoded d code.Vbin8 (length bs ∷ bs) (binary bs) refl (bs, short-sized bs, refl, refl))
     (λ _. as-widest d (binary bs) r ok)
 scalar-bytes d (string bs) r ok =
     pick (Formed d (string bs)) (is_short (length bs)) _ _
-    (λ _. as-frame d code.Str8 (length bs ∷ bs) (string bs) refl (bs, short-sized bs, refl, rw (is_utf8-from_IsUtf8 bs r) refl))
+    (λ _. as-encoded d code.Str8 (length bs ∷ bs) (string bs) refl (bs, short-sized bs, refl, rw (is_utf8-from_IsUtf8 bs r) refl))
     (λ _. as-widest d (string bs) r ok)
 scalar-bytes d (symbol bs) r ok =
     pick (Formed d (symbol bs)) (is_short (length bs)) _ _
-    (λ _. as-frame d code.Sym8 (length bs ∷ bs) (symbol bs) refl (bs, short-sized bs, refl, rw (is_utf8-from_IsUtf8 bs r) refl))
+    (λ _. as-encoded d code.Sym8 (length bs ∷ bs) (symbol bs) refl (bs, short-sized bs, refl, rw (is_utf8-from_IsUtf8 bs r) refl))
     (λ _. as-widest d (symbol bs) r ok)
 scalar-bytes d null r ok = as-widest d null r ok
 scalar-bytes d (ubyte n) r ok = as-widest d (ubyte n) r ok
@@ -271,11 +271,11 @@ pub descriptor-bytes : (d : Descriptor) → IsRangedDescriptor d → descriptor_
 unfolding category scalar_in
 descriptor-bytes (tree.name bs) r ok =
     pick (λ z. IsDescriptor z (tree.name bs)) (is_short (length bs)) _ _
-    (λ _. IsDescriptor.spelled code.Sym8 (length bs ∷ bs) bs (tree.name bs) refl (short-sized bs) (rw (is_utf8-from_IsUtf8 bs r) refl))
-    (λ _. IsDescriptor.spelled code.Sym32 (to_be_bytes w32 (length bs) ++ bs) bs (tree.name bs) refl (IsPayload.of_four_bytes (to_be_bytes w32 (length bs)) bs (long-number bs ok)) (rw (is_utf8-from_IsUtf8 bs r) refl))
+    (λ _. IsDescriptor.encoded code.Sym8 (length bs ∷ bs) bs (tree.name bs) refl (short-sized bs) (rw (is_utf8-from_IsUtf8 bs r) refl))
+    (λ _. IsDescriptor.encoded code.Sym32 (to_be_bytes w32 (length bs) ++ bs) bs (tree.name bs) refl (IsPayload.of_four_bytes (to_be_bytes w32 (length bs)) bs (long-number bs ok)) (rw (is_utf8-from_IsUtf8 bs r) refl))
 descriptor-bytes (tree.code n) r ok =
     pick (λ z. IsDescriptor z (tree.code n)) (n == 0) _ _
-    (λ e. IsDescriptor.spelled code.Ulong0 [] [] (tree.code n) refl (IsPayload.of_width []) (ap (λ m. Some (ulong m)) (zero-from n e)))
+    (λ e. IsDescriptor.encoded code.Ulong0 [] [] (tree.code n) refl (IsPayload.of_width []) (ap (λ m. Some (ulong m)) (zero-from n e)))
     (λ _. pick (λ z. IsDescriptor z (tree.code n)) (nat_lt n 256) _ _
-    (λ e. IsDescriptor.spelled code.SmallUlong (to_be_bytes w8 n) (to_be_bytes w8 n) (tree.code n) refl (IsPayload.of_width (to_be_bytes w8 n)) (ap (scalar_from ulong) (one-byte n (small-from n e))))
-    (λ _. IsDescriptor.spelled code.Ulong (to_be_bytes w64 n) (to_be_bytes w64 n) (tree.code n) refl (IsPayload.of_width (to_be_bytes w64 n)) (ap (λ m. Some (ulong m)) (from_be_bytes-to_be_bytes_8 n r))))
+    (λ e. IsDescriptor.encoded code.SmallUlong (to_be_bytes w8 n) (to_be_bytes w8 n) (tree.code n) refl (IsPayload.of_width (to_be_bytes w8 n)) (ap (scalar_from ulong) (one-byte n (small-from n e))))
+    (λ _. IsDescriptor.encoded code.Ulong (to_be_bytes w64 n) (to_be_bytes w64 n) (tree.code n) refl (IsPayload.of_width (to_be_bytes w64 n)) (ap (λ m. Some (ulong m)) (from_be_bytes-to_be_bytes_8 n r))))

@@ -10,8 +10,8 @@ use Rattle.amqp_frame.specs.declared.code.Category.TheVariants.{Fixed}
 use Rattle.amqp_ser.specs.Tree.{Scalar, null, bool, ubyte, ushort, uint, ulong, byte, short, int, long, float, double, timestamp, decimal32, decimal64, decimal128, uuid, binary, string, symbol}
 use Rattle.amqp_decode.specs.Codes.{is_primitive, shape_of_code}
 use Rattle.amqp_decode.specs.Scalars.{exact, character, scalar_in}
-use Rattle.amqp_decode.specs.Spells.{IsPayload}
-use Rattle.amqp_decode.specs.Parsed.{FrameReader, ContentReader, cut, content_at, sized_at}
+use Rattle.amqp_decode.specs.Encodes.{IsPayload}
+use Rattle.amqp_decode.specs.Parsed.{ValueReader, ContentReader, cut, content_at, sized_at}
 use Rattle.amqp_decode.specs.Prefix.{IsScalar}
 use Rattle.amqp_decode.specs.declared.payload_shape.PayloadShape.TheVariants as shape
 use Rattle.amqp_decode.proofs.CodeLemmas.{primitive-found, primitive-nonzero}

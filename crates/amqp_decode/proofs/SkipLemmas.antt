@@ -10,9 +10,9 @@ use Rattle.amqp_ser.specs.Tree.{Scalar, Descriptor, Tree, Pairs, trees_of, no_pa
 use Rattle.amqp_value.specs.Image.{insert_tree}
 use Rattle.amqp_decode.specs.Codes.{primitive_of, shape_of_code}
 use Rattle.amqp_decode.specs.Scalars.{and_then, scalar_in, scalar_tree}
-use Rattle.amqp_decode.specs.Spells.{IsNumber, IsPayload, IsCounted}
-use Rattle.amqp_decode.specs.Parsed.{FrameReader, ContentReader, content_at, counted_in, descriptor_at, gather, insert, all, with_rest, payload_in, parse_list, parse_map, parse_array, content_of, frame_in, parse, parse_content}
-use Rattle.amqp_decode.specs.Places.{Finder, PayloadFinder, Spot, skips, spot_of_values, spot_of_payload, spot_of_array, spot_of_descriptor, spot_in, spot_in_item, spot_around, content_spot, at_start}
+use Rattle.amqp_decode.specs.Encodes.{IsNumber, IsPayload, IsCounted}
+use Rattle.amqp_decode.specs.Parsed.{ValueReader, ContentReader, content_at, counted_in, descriptor_at, gather, insert, all, with_rest, payload_in, parse_list, parse_map, parse_array, content_of, value_in_bytes, parse, parse_content}
+use Rattle.amqp_decode.specs.Places.{Finder, PayloadFinder, PlaceFromEnd, skips, place_of_values, place_of_payload, place_of_array, place_of_descriptor, place_in, place_in_item, place_around, content_place, at_start}
 use Rattle.amqp_decode.specs.WithoutBytes.{has_no_payload}
 use Rattle.amqp_decode.specs.declared.payload_shape.Count.{Count}
 use Rattle.amqp_decode.specs.declared.payload_shape.PayloadShape.TheVariants as shape
@@ -70,7 +70,7 @@ all-none None h = refl
 all-none (Some (a, [])) h = absurd (h refl)
 all-none (Some (a, b ∷ s)) h = refl
 
-module _ (f : FrameReader) where
+module _ (f : ValueReader) where
   gather-on : (n : ℕ) (done : List Tree) (o : Option (Tree × List ℕ)) → ((r : Tree × List ℕ) → rest_of (gather f n r.1 (done ++ r.0 ∷ [])) ≡ skips f n r.1)
       → rest_of (and_then o (λ r. gather f n r.1 (done ++ r.0 ∷ []))) ≡ and_then o (λ r. skips f n r.1)
   gather-on n done None h = refl
@@ -156,24 +156,24 @@ module _ (f : FrameReader) where
       let empty : s ≡ [] = cc in
       left (ap length empty)
 
-module _ (c : Finder) (f : FrameReader) (level : ℕ) (after : ℕ) where
-  pub spots-step : (n i : ℕ) (s rest : List ℕ) (t : Tree) → i < n → f s ≡ Some (t, rest)
-      → spot_of_values c f level (n - (i + 1)) after rest ≡ spot_of_values c f level (n - i) after s
-  spots-step n i s rest t lt e =
+module _ (c : Finder) (f : ValueReader) (level : ℕ) (after : ℕ) where
+  pub places-step : (n i : ℕ) (s rest : List ℕ) (t : Tree) → i < n → f s ≡ Some (t, rest)
+      → place_of_values c f level (n - (i + 1)) after rest ≡ place_of_values c f level (n - i) after s
+  places-step n i s rest t lt e =
       let same : n - i ≡ suc (n - (i + 1)) = omega arith in
-      let one : spot_of_values c f level (suc (n - (i + 1))) after s ≡ spot_of_values c f level (n - (i + 1)) after rest = rw e refl in
-      sym (ap (λ m. spot_of_values c f level m after s) same ∙ one)
+      let one : place_of_values c f level (suc (n - (i + 1))) after s ≡ place_of_values c f level (n - (i + 1)) after rest = rw e refl in
+      sym (ap (λ m. place_of_values c f level m after s) same ∙ one)
 
-  pub spots-here : (n i : ℕ) (s : List ℕ) → i < n → f s ≡ None → c after s ≡ spot_of_values c f level (n - i) after s
-  spots-here n i s lt e =
+  pub places-here : (n i : ℕ) (s : List ℕ) → i < n → f s ≡ None → c after s ≡ place_of_values c f level (n - i) after s
+  places-here n i s lt e =
       let same : n - i ≡ suc (n - (i + 1)) = omega arith in
-      let one : spot_of_values c f level (suc (n - (i + 1))) after s ≡ c after s = rw e refl in
-      sym (ap (λ m. spot_of_values c f level m after s) same ∙ one)
+      let one : place_of_values c f level (suc (n - (i + 1))) after s ≡ c after s = rw e refl in
+      sym (ap (λ m. place_of_values c f level m after s) same ∙ one)
 
-  pub spots-end : (n i : ℕ) (s : List ℕ) → n ≤ i → at_start level after s ≡ spot_of_values c f level (n - i) after s
-  spots-end n i s e =
+  pub places-end : (n i : ℕ) (s : List ℕ) → n ≤ i → at_start level after s ≡ place_of_values c f level (n - i) after s
+  places-end n i s e =
       let none : n - i ≡ 0 = omega (arith, e) in
-      sym (ap (λ m. spot_of_values c f level m after s) none)
+      sym (ap (λ m. place_of_values c f level m after s) none)
 
 -- Elements without bytes leave the bytes before them, so the first shows what all are.
 first-of : {A : Type 0} (f : ℕ → A) → ((n : ℕ) → f (suc n) ≡ f 1) → (n : ℕ) → f (min n 1) ≡ f n
@@ -182,13 +182,13 @@ first-of f same (suc n) =
     let one : min (suc n) 1 ≡ 1 = omega arith in
     ap f one ∙ sym (same n)
 
-skips-same : (f : FrameReader) (s : List ℕ) (t : Tree) → f s ≡ Some (t, s) → (n : ℕ) → skips f n s ≡ Some s
+skips-same : (f : ValueReader) (s : List ℕ) (t : Tree) → f s ≡ Some (t, s) → (n : ℕ) → skips f n s ≡ Some s
 skips-same f s t e zero = refl
 skips-same f s t e (suc n) = rw e (skips-same f s t e n)
 
-spots-same : (c : Finder) (f : FrameReader) (level after : ℕ) (s : List ℕ) (t : Tree) → f s ≡ Some (t, s) → (n : ℕ) → spot_of_values c f level n after s ≡ at_start level after s
-spots-same c f level after s t e zero = refl
-spots-same c f level after s t e (suc n) = rw e (spots-same c f level after s t e n)
+places-same : (c : Finder) (f : ValueReader) (level after : ℕ) (s : List ℕ) (t : Tree) → f s ≡ Some (t, s) → (n : ℕ) → place_of_values c f level n after s ≡ at_start level after s
+places-same c f level after s t e zero = refl
+places-same c f level after s t e (suc n) = rw e (places-same c f level after s t e n)
 
 module _ (d : ℕ) (c : EncodingCodes) (s : List ℕ) (none : has_no_payload c ≡ true) where
   no-content : content_at (category (code_of c)) s ≡ Some ([], s)
@@ -206,76 +206,76 @@ module _ (d : ℕ) (c : EncodingCodes) (s : List ℕ) (none : has_no_payload c �
       by_item None e m = rw e refl
       by_item (Some t) e m = skips-same (payload_in (parse_content d) c) s t e (suc m) ∙ sym (skips-same (payload_in (parse_content d) c) s t e 1)
 
-  pub first-spots : (k : Finder) (level after n m : ℕ) → m ≡ min n 1 → spot_of_values k (payload_in (parse_content d) c) level m after s ≡ spot_of_values k (payload_in (parse_content d) c) level n after s
-  first-spots k level after n m one = ap (λ i. spot_of_values k (payload_in (parse_content d) c) level i after s) one ∙ first-of (λ i. spot_of_values k (payload_in (parse_content d) c) level i after s) (by_item (parse_content d c []) left) n
+  pub first-places : (k : Finder) (level after n m : ℕ) → m ≡ min n 1 → place_of_values k (payload_in (parse_content d) c) level m after s ≡ place_of_values k (payload_in (parse_content d) c) level n after s
+  first-places k level after n m one = ap (λ i. place_of_values k (payload_in (parse_content d) c) level i after s) one ∙ first-of (λ i. place_of_values k (payload_in (parse_content d) c) level i after s) (by_item (parse_content d c []) left) n
     where
       by_item : (o : Option Tree) → payload_in (parse_content d) c s ≡ and_then o (with_rest s)
-          → (m : ℕ) → spot_of_values k (payload_in (parse_content d) c) level (suc m) after s ≡ spot_of_values k (payload_in (parse_content d) c) level 1 after s
+          → (m : ℕ) → place_of_values k (payload_in (parse_content d) c) level (suc m) after s ≡ place_of_values k (payload_in (parse_content d) c) level 1 after s
       by_item None e m = rw e refl
-      by_item (Some t) e m = spots-same k (payload_in (parse_content d) c) level after s t e (suc m) ∙ sym (spots-same k (payload_in (parse_content d) c) level after s t e 1)
+      by_item (Some t) e m = places-same k (payload_in (parse_content d) c) level after s t e (suc m) ∙ sym (places-same k (payload_in (parse_content d) c) level after s t e 1)
 
-abbrev spot : ℕ → ℕ → Spot
-spot left level = (left, level)
+abbrev from_end : ℕ → ℕ → PlaceFromEnd
+from_end left level = (left, level)
 
 -- The depth.
-pub spot-zero : (d a : ℕ) (s : List ℕ) → d ≡ 0 → (length s + a, d) ≡ spot_in d a s
-unfolding spot_in
-spot-zero zero a s e = refl
-spot-zero (suc d) a s e = absurd (omega arith)
+pub from_end-zero : (d a : ℕ) (s : List ℕ) → d ≡ 0 → (length s + a, d) ≡ place_in d a s
+unfolding place_in
+from_end-zero zero a s e = refl
+from_end-zero (suc d) a s e = absurd (omega arith)
 
-pub spot-at : (d a : ℕ) (s : List ℕ) → 0 < d → spot_around (d - 1) a s ≡ spot_in d a s
-unfolding spot_in spot_in_item
-spot-at zero a s lt = absurd (omega arith)
-spot-at (suc d) a s lt =
+pub from_end-at : (d a : ℕ) (s : List ℕ) → 0 < d → place_around (d - 1) a s ≡ place_in d a s
+unfolding place_in place_in_item
+from_end-at zero a s lt = absurd (omega arith)
+from_end-at (suc d) a s lt =
     let e : suc d - 1 ≡ d = omega arith in
     rw e refl
 
-pub item-spot-zero : (d : ℕ) (c : EncodingCodes) (a : ℕ) (s : List ℕ) → d ≡ 0 → (length s + a, 0) ≡ spot_in_item d c a s
-unfolding spot_in_item
-item-spot-zero zero c a s e = refl
-item-spot-zero (suc d) c a s e = absurd (omega arith)
+pub item-from_end-zero : (d : ℕ) (c : EncodingCodes) (a : ℕ) (s : List ℕ) → d ≡ 0 → (length s + a, 0) ≡ place_in_item d c a s
+unfolding place_in_item
+item-from_end-zero zero c a s e = refl
+item-from_end-zero (suc d) c a s e = absurd (omega arith)
 
-pub item-spot-at : (d : ℕ) (c : EncodingCodes) (a : ℕ) (s : List ℕ) → 0 < d → spot_of_payload (content_spot (d - 1)) d c a s ≡ spot_in_item d c a s
-unfolding spot_in spot_in_item
-item-spot-at zero c a s lt = absurd (omega arith)
-item-spot-at (suc d) c a s lt =
+pub item-from_end-at : (d : ℕ) (c : EncodingCodes) (a : ℕ) (s : List ℕ) → 0 < d → place_of_payload (content_place (d - 1)) d c a s ≡ place_in_item d c a s
+unfolding place_in place_in_item
+item-from_end-at zero c a s lt = absurd (omega arith)
+item-from_end-at (suc d) c a s lt =
     let e : suc d - 1 ≡ d = omega arith in
     rw e refl
 
 -- The first byte of a value.
-pub spot-empty : (d a : ℕ) (s : List ℕ) → 0 < d → length s ≡ 0 → (length s + a, d) ≡ spot_in d a s
-spot-empty d a (b ∷ s) lt e = absurd (omega arith)
-spot-empty d a [] lt e =
+pub from_end-empty : (d a : ℕ) (s : List ℕ) → 0 < d → length s ≡ 0 → (length s + a, d) ≡ place_in d a s
+from_end-empty d a (b ∷ s) lt e = absurd (omega arith)
+from_end-empty d a [] lt e =
     let level : suc (d - 1) ≡ d = omega arith in
     let none : 0 + a ≡ a = omega arith in
-    ap (λ n. spot n d) none ∙ sym (ap (λ l. spot a l) level) ∙ spot-at d a [] lt
+    ap (λ n. from_end n d) none ∙ sym (ap (λ l. from_end a l) level) ∙ from_end-at d a [] lt
 
 module _ (d a b : ℕ) (s : List ℕ) (lt : 0 < d) (some : b ≡ 0 → ⊥) where
-  pub spot-code : (c : EncodingCodes) → primitive_of b ≡ Some c → spot_of_payload (content_spot (d - 1)) d c a s ≡ spot_in d a (b ∷ s)
-  spot-code c is =
+  pub from_end-code : (c : EncodingCodes) → primitive_of b ≡ Some c → place_of_payload (content_place (d - 1)) d c a s ≡ place_in d a (b ∷ s)
+  from_end-code c is =
       let level : suc (d - 1) ≡ d = omega arith in
-      let inside : spot_around (d - 1) a (b ∷ s) ≡ spot_of_payload (content_spot (d - 1)) (suc (d - 1)) c a s = rw (not-zero b some, is) refl in
-      sym (ap (λ l. spot_of_payload (content_spot (d - 1)) l c a s) level) ∙ sym inside ∙ spot-at d a (b ∷ s) lt
+      let inside : place_around (d - 1) a (b ∷ s) ≡ place_of_payload (content_place (d - 1)) (suc (d - 1)) c a s = rw (not-zero b some, is) refl in
+      sym (ap (λ l. place_of_payload (content_place (d - 1)) l c a s) level) ∙ sym inside ∙ from_end-at d a (b ∷ s) lt
 
-  pub spot-no_code : primitive_of b ≡ None → (suc (length s) + a, d) ≡ spot_in d a (b ∷ s)
-  spot-no_code is =
+  pub from_end-no_code : primitive_of b ≡ None → (suc (length s) + a, d) ≡ place_in d a (b ∷ s)
+  from_end-no_code is =
       let level : suc (d - 1) ≡ d = omega arith in
-      let inside : spot_around (d - 1) a (b ∷ s) ≡ (suc (length s) + a, suc (d - 1)) = rw (not-zero b some, is) refl in
-      sym (ap (λ l. spot (suc (length s) + a) l) level) ∙ sym inside ∙ spot-at d a (b ∷ s) lt
+      let inside : place_around (d - 1) a (b ∷ s) ≡ (suc (length s) + a, suc (d - 1)) = rw (not-zero b some, is) refl in
+      sym (ap (λ l. from_end (suc (length s) + a) l) level) ∙ sym inside ∙ from_end-at d a (b ∷ s) lt
 
   pub parse-code : (c : EncodingCodes) → primitive_of b ≡ Some c → payload_in (content_of (parse (d - 1)) (parse_content (d - 1))) c s ≡ parse d (b ∷ s)
   parse-code c is =
-      let inside : frame_in (parse (d - 1)) (parse_content (d - 1)) (b ∷ s) ≡ payload_in (content_of (parse (d - 1)) (parse_content (d - 1))) c s = rw (not-zero b some, is) refl in
+      let inside : value_in_bytes (parse (d - 1)) (parse_content (d - 1)) (b ∷ s) ≡ payload_in (content_of (parse (d - 1)) (parse_content (d - 1))) c s = rw (not-zero b some, is) refl in
       sym (parse-at d (b ∷ s) lt ∙ inside)
 
   pub parse-no_code : primitive_of b ≡ None → parse d (b ∷ s) ≡ None
   parse-no_code is =
-      let inside : frame_in (parse (d - 1)) (parse_content (d - 1)) (b ∷ s) ≡ None = rw (not-zero b some, is) refl in
+      let inside : value_in_bytes (parse (d - 1)) (parse_content (d - 1)) (b ∷ s) ≡ None = rw (not-zero b some, is) refl in
       parse-at d (b ∷ s) lt ∙ inside
 
 -- A described value.
 pub described-ok : {T E : Type 0} (d : ℕ) (s rest : List ℕ) (r : Result T E) (now : T → List ℕ) → ((x : Descriptor) × (descriptor_at s ≡ Some (x, rest)))
-    → IfOk r (λ v. (t : Tree) × (parse d rest ≡ Some (t, now v))) → IfOk r (λ v. (t : Tree) × (frame_in (parse d) (parse_content d) (0 ∷ s) ≡ Some (t, now v)))
+    → IfOk r (λ v. (t : Tree) × (parse d rest ≡ Some (t, now v))) → IfOk r (λ v. (t : Tree) × (value_in_bytes (parse d) (parse_content d) (0 ∷ s) ≡ Some (t, now v)))
 described-ok d s rest (Ok v) now e h = (tree.described e.0 h.0, rw (e.1, h.1) refl)
 described-ok d s rest (Err g) now e h = tt
 
@@ -336,8 +336,8 @@ module _ (d n : ℕ) (body : List ℕ) where
         let h = gathered (payload_in (parse_content d) c) n s filled in
         (tree.array (trees_of h.0), array-found (parse_content d) b c n body s h.0 e is h.1)
 
-    pub items-spot : (after : ℕ) → spot_of_values (spot_in_item d c) (payload_in (parse_content d) c) d n after s ≡ spot_of_array (spot_in_item d) (parse_content d) d after (n, body)
-    items-spot after = rw (is, e) refl
+    pub items-from_end : (after : ℕ) → place_of_values (place_in_item d c) (payload_in (parse_content d) c) d n after s ≡ place_of_array (place_in_item d) (parse_content d) d after (n, body)
+    items-from_end after = rw (is, e) refl
 
     pub no_items : (skips (payload_in (parse_content d) c) n s ≡ Some [] → ⊥) → parse_array (parse_content d) (n, body) ≡ None
     no_items left = array-none (parse_content d) b c n body s e is (not-gathered (payload_in (parse_content d) c) n s left)

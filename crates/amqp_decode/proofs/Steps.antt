@@ -14,7 +14,7 @@ use Rattle.amqp_value.specs.TreeOf.{tree_of}
 use Rattle.amqp_value.specs.declared.value.Value.{Value}
 use Rattle.amqp_decode.specs.Codes.{is_primitive, primitive_of}
 use Rattle.amqp_decode.specs.Scalars.{and_then}
-use Rattle.amqp_decode.specs.Parsed.{FrameReader, ContentReader, gather, insert, all, parse_list, parse_map, parse_array, content_at, with_rest, payload_in, content_of, frame_in, parse, parse_content}
+use Rattle.amqp_decode.specs.Parsed.{ValueReader, ContentReader, gather, insert, all, parse_list, parse_map, parse_array, content_at, with_rest, payload_in, content_of, value_in_bytes, parse, parse_content}
 use Rattle.amqp_decode.proofs.CodeLemmas.{named, primitive-found, primitive-nonzero}
 
 pub parse_content-at : (d : ℕ) (c : EncodingCodes) (s : List ℕ) → 0 < d → parse_content d c s ≡ content_of (parse (d - 1)) (parse_content (d - 1)) c s
@@ -29,7 +29,7 @@ unfolding parse
 parse-zero zero s e = refl
 parse-zero (suc d) s e = absurd (omega arith)
 
-pub parse-at : (d : ℕ) (s : List ℕ) → 0 < d → parse d s ≡ frame_in (parse (d - 1)) (parse_content (d - 1)) s
+pub parse-at : (d : ℕ) (s : List ℕ) → 0 < d → parse d s ≡ value_in_bytes (parse (d - 1)) (parse_content (d - 1)) s
 unfolding parse_content parse
 parse-at zero s lt = absurd (omega arith)
 parse-at (suc d) s lt =
@@ -73,33 +73,33 @@ not-zero zero some = absurd (some refl)
 not-zero (suc n) some = grind (arith, common_steps)
 
 pub item-fixed : (d : ℕ) (c : EncodingCodes) (s : List ℕ) (r : Option (Tree × List ℕ)) → 0 < d → (code_of c ≡ 0 → ⊥)
-    → frame_in (parse (d - 1)) (parse_content (d - 1)) (code_of c ∷ s) ≡ r → payload_in (parse_content d) c s ≡ r
+    → value_in_bytes (parse (d - 1)) (parse_content (d - 1)) (code_of c ∷ s) ≡ r → payload_in (parse_content d) c s ≡ r
 unfolding parse parse_content
 item-fixed zero c s r lt some e = absurd (omega arith)
 item-fixed (suc d) c s r lt some e =
     let same : suc d - 1 ≡ d = omega arith in
-    let framed : frame_in (parse (suc d - 1)) (parse_content (suc d - 1)) (code_of c ∷ s) ≡ payload_in (parse_content (suc d)) c s =
+    let as_value : value_in_bytes (parse (suc d - 1)) (parse_content (suc d - 1)) (code_of c ∷ s) ≡ payload_in (parse_content (suc d)) c s =
     rw (same, not-zero (code_of c) some, named (code_of c) c some refl) refl in
-    sym framed ∙ e
+    sym as_value ∙ e
 
 -- A scalar of fixed width that was found is the next array element.
 pub item-found : (d : ℕ) (c : EncodingCodes) (s : List ℕ) (r : Option (Tree × List ℕ)) → 0 < d → (code_of c ≡ 0 → ⊥)
-    → ((f : FrameReader) (h : ContentReader) → frame_in f h (code_of c ∷ s) ≡ r) → payload_in (parse_content d) c s ≡ r
+    → ((f : ValueReader) (h : ContentReader) → value_in_bytes f h (code_of c ∷ s) ≡ r) → payload_in (parse_content d) c s ≡ r
 item-found d c s r lt some found = item-fixed d c s r lt some (found (parse (d - 1)) (parse_content (d - 1)))
 
 -- The payload after the byte of a primitive code.
-module _ (f : FrameReader) (h : ContentReader) (b : ℕ) (c : EncodingCodes) (s : List ℕ) where
-  after-byte : b ≡ code_of c → IsTrue (is_primitive c) → frame_in f h (b ∷ s) ≡ payload_in (content_of f h) c s
+module _ (f : ValueReader) (h : ContentReader) (b : ℕ) (c : EncodingCodes) (s : List ℕ) where
+  after-byte : b ≡ code_of c → IsTrue (is_primitive c) → value_in_bytes f h (b ∷ s) ≡ payload_in (content_of f h) c s
   after-byte is ok = rw (is, primitive-nonzero c ok, primitive-found c ok) refl
 
   pub byte-ok : (r : Result Value Error) (rest : List ℕ) → b ≡ code_of c → IsTrue (is_primitive c)
-      → IfOk r (λ v. payload_in (content_of f h) c s ≡ Some (tree_of v, rest)) → IfOk r (λ v. frame_in f h (b ∷ s) ≡ Some (tree_of v, rest))
+      → IfOk r (λ v. payload_in (content_of f h) c s ≡ Some (tree_of v, rest)) → IfOk r (λ v. value_in_bytes f h (b ∷ s) ≡ Some (tree_of v, rest))
   byte-ok (Ok v) rest is ok e = after-byte is ok ∙ e
   byte-ok (Err g) rest is ok e = tt
 
   pub byte-err : (r : Result Value Error) → b ≡ code_of c → IsTrue (is_primitive c)
       → IfErr r (λ e. (e ≡ OutOfMemory → ⊥) → (e ≡ TooLong → ⊥) → payload_in (content_of f h) c s ≡ None)
-      → IfErr r (λ e. (e ≡ OutOfMemory → ⊥) → (e ≡ TooLong → ⊥) → frame_in f h (b ∷ s) ≡ None)
+      → IfErr r (λ e. (e ≡ OutOfMemory → ⊥) → (e ≡ TooLong → ⊥) → value_in_bytes f h (b ∷ s) ≡ None)
   byte-err (Ok v) is ok e = tt
   byte-err (Err g) is ok e = λ other short. after-byte is ok ∙ e other short
 
@@ -107,7 +107,7 @@ pub trees-push : (vs : List Value) (v : Value) → map tree_of (vs ++ v ∷ []) 
 trees-push [] v = refl
 trees-push (x ∷ vs) v = ap (λ r. tree_of x ∷ r) (trees-push vs v)
 
-module _ (f : FrameReader) where
+module _ (f : ValueReader) where
   one-more : (m : ℕ) (s rest : List ℕ) (t : Tree) (done : List Tree) → f s ≡ Some (t, rest) → gather f (suc m) s done ≡ gather f m rest (done ++ t ∷ [])
   one-more m s rest t done e = rw e refl
 

@@ -10,7 +10,7 @@ use Rattle.amqp_data.specs.declared.error.Error.TheVariants.{OutOfMemory, TooLon
 use Rattle.amqp_data.specs.declared.format_code.EncodingCodes.{EncodingCodes}
 use Rattle.amqp_frame.specs.Code.{category}
 use Rattle.amqp_decode.specs.Codes.{primitive_of, shape_of_code}
-use Rattle.amqp_decode.specs.Parsed.{FrameReader, ContentReader, content_at, counted_in, descriptor_at, payload_in, parse, parse_content}
+use Rattle.amqp_decode.specs.Parsed.{ValueReader, ContentReader, content_at, counted_in, descriptor_at, payload_in, parse, parse_content}
 use Rattle.amqp_decode.specs.declared.payload_shape.PayloadShape.{PayloadShape}
 use Rattle.amqp_decode.specs.declared.payload_shape.PayloadShape.TheVariants as shape
 
@@ -27,7 +27,7 @@ if_none None e later = e
 if_none (Some a) e later = later a
 
 -- Of `n` values, one after another, the first that cannot be read. After them, bytes are left over.
-abbrev pub fault_of_values : Fault → FrameReader → ℕ → List ℕ → Error
+abbrev pub fault_of_values : Fault → ValueReader → ℕ → List ℕ → Error
 fault_of_values c f zero s = InvalidValue
 fault_of_values c f (suc n) s = if_none (f s) (c s) (λ r. fault_of_values c f n r.1)
 
@@ -39,7 +39,7 @@ fault_of_payload k code s = if_none (content_at (category (code_of code)) s) Une
 abbrev pub fault_of_byte : ℕ → Error
 fault_of_byte byte = if byte == 0 then InvalidValue else InvalidFormatCode
 
-abbrev pub fault_of_map : Fault → FrameReader → ℕ × List ℕ → Error
+abbrev pub fault_of_map : Fault → ValueReader → ℕ × List ℕ → Error
 fault_of_map c f (n, s) = if n % 2 == 0 then fault_of_values c f n s else InvalidValue
 
 abbrev pub fault_of_array : PayloadFault → ContentReader → ℕ × List ℕ → Error
@@ -48,14 +48,14 @@ fault_of_array k h (n, c ∷ s) = if_none (primitive_of c) (fault_of_byte c) (λ
 
 -- The fault of a content and of an encoded value, given those of values and array elements of less
 -- depth.
-abbrev pub fault_of_shape : Fault → FrameReader → PayloadFault → ContentReader → PayloadShape → List ℕ → Error
+abbrev pub fault_of_shape : Fault → ValueReader → PayloadFault → ContentReader → PayloadShape → List ℕ → Error
 fault_of_shape c f k h shape.Described s = InvalidValue
 fault_of_shape c f k h shape.Scalar s = InvalidValue
 fault_of_shape c f k h (shape.List count) s = if_none (counted_in count s) UnexpectedEof (λ p. fault_of_values c f p.0 p.1)
 fault_of_shape c f k h (shape.Map count) s = if_none (counted_in count s) UnexpectedEof (fault_of_map c f)
 fault_of_shape c f k h (shape.Array count) s = if_none (counted_in count s) UnexpectedEof (fault_of_array k h)
 
-abbrev pub fault_of_content : Fault → FrameReader → PayloadFault → ContentReader → PayloadFault
+abbrev pub fault_of_content : Fault → ValueReader → PayloadFault → ContentReader → PayloadFault
 fault_of_content c f k h code s = fault_of_shape c f k h (shape_of_code code) s
 
 abbrev pub fault_of_scalar : PayloadFault
@@ -65,9 +65,9 @@ abbrev pub fault_of_descriptor : List ℕ → Error
 fault_of_descriptor [] = UnexpectedEof
 fault_of_descriptor (byte ∷ s) = if_none (primitive_of byte) (fault_of_byte byte) (λ code. fault_of_payload fault_of_scalar code s)
 
-abbrev pub fault_of_frame : Fault → FrameReader → PayloadFault → ContentReader → Fault
-fault_of_frame c f k h [] = UnexpectedEof
-fault_of_frame c f k h (byte ∷ s) =
+abbrev pub fault_of_value : Fault → ValueReader → PayloadFault → ContentReader → Fault
+fault_of_value c f k h [] = UnexpectedEof
+fault_of_value c f k h (byte ∷ s) =
     if byte == 0 then if_none (descriptor_at s) (fault_of_descriptor s) (λ d. c d.1)
     else if_none (primitive_of byte) InvalidFormatCode (λ code. fault_of_payload (fault_of_content c f k h) code s)
 
@@ -75,7 +75,7 @@ unfoldable mutual
   -- The fault of the first encoded value of the bytes, with at most this depth.
   pub fault_in : ℕ → List ℕ → Error
   fault_in zero s = InvalidValue
-  fault_in (suc depth) s = fault_of_frame (fault_in depth) (parse depth) (fault_in_item depth) (parse_content depth) s
+  fault_in (suc depth) s = fault_of_value (fault_in depth) (parse depth) (fault_in_item depth) (parse_content depth) s
 
   -- The fault of the first payload of a code, as an array element with at most this depth.
   pub fault_in_item : ℕ → EncodingCodes → List ℕ → Error
@@ -84,7 +84,7 @@ unfoldable mutual
 
 -- The same, in which the values inside have at most this depth.
 abbrev pub fault_around : ℕ → Fault
-fault_around depth s = fault_of_frame (fault_in depth) (parse depth) (fault_in_item depth) (parse_content depth) s
+fault_around depth s = fault_of_value (fault_in depth) (parse depth) (fault_in_item depth) (parse_content depth) s
 
 abbrev pub content_fault : ℕ → PayloadFault
 content_fault depth code s = fault_of_content (fault_in depth) (parse depth) (fault_in_item depth) (parse_content depth) code s

@@ -62,8 +62,8 @@ descriptor_at [] = None
 descriptor_at (byte ∷ s) = and_then (primitive_of byte) (λ code. and_then (content_at (category (code_of code)) s) (parsed_descriptor code))
 
 -- Readers of an encoded value, and of the content of a code's payload.
-abbrev pub FrameReader : Type 0
-FrameReader = List ℕ → Option (Tree × List ℕ)
+abbrev pub ValueReader : Type 0
+ValueReader = List ℕ → Option (Tree × List ℕ)
 
 abbrev pub ContentReader : Type 0
 ContentReader = EncodingCodes → List ℕ → Option Tree
@@ -72,16 +72,16 @@ ContentReader = EncodingCodes → List ℕ → Option Tree
 abbrev pub with_rest : List ℕ → Tree → Option (Tree × List ℕ)
 with_rest rest t = Some (t, rest)
 
-abbrev pub payload_in : ContentReader → EncodingCodes → FrameReader
+abbrev pub payload_in : ContentReader → EncodingCodes → ValueReader
 payload_in h code s = and_then (content_at (category (code_of code)) s) (λ p. and_then (h code p.0) (with_rest p.1))
 
 -- `n` more values, after those already read.
-abbrev pub gather : FrameReader → ℕ → List ℕ → List Tree → Option (List Tree × List ℕ)
+abbrev pub gather : ValueReader → ℕ → List ℕ → List Tree → Option (List Tree × List ℕ)
 gather f zero s done = Some (done, s)
 gather f (suc n) s done = and_then (f s) (λ r. gather f n r.1 (done ++ r.0 ∷ []))
 
 -- `n` more keys and values, alternately.
-abbrev pub insert : FrameReader → ℕ → List ℕ → Pairs → Option (Pairs × List ℕ)
+abbrev pub insert : ValueReader → ℕ → List ℕ → Pairs → Option (Pairs × List ℕ)
 insert f zero s done = Some (done, s)
 insert f (suc n) s done = and_then (f s) (λ k. and_then (f k.1) (λ v. insert f n v.1 (insert_tree done k.0 v.0)))
 
@@ -90,10 +90,10 @@ abbrev pub all : {A : Type 0} → A × List ℕ → Option A
 all (a, []) = Some a
 all (a, b ∷ s) = None
 
-abbrev pub parse_list : FrameReader → ℕ × List ℕ → Option Tree
+abbrev pub parse_list : ValueReader → ℕ × List ℕ → Option Tree
 parse_list f p = and_then (and_then (gather f p.0 p.1 []) all) (λ ts. Some (tree.list (trees_of ts)))
 
-abbrev pub parse_map : FrameReader → ℕ × List ℕ → Option Tree
+abbrev pub parse_map : ValueReader → ℕ × List ℕ → Option Tree
 parse_map f p = if p.0 % 2 == 0 then and_then (and_then (insert f (p.0 / 2) p.1 no_pairs) all) (λ ps. Some (tree.map ps)) else None
 
 -- The constructor at the start, and `n` payloads of it.
@@ -106,30 +106,30 @@ abbrev pub parse_array : ContentReader → ℕ × List ℕ → Option Tree
 parse_array h p = and_then (items_in h p.0 p.1) (λ ts. Some (tree.array (trees_of ts)))
 
 -- A content. `f` reads the encoded values in it, and `h` the array elements.
-abbrev pub content_in : FrameReader → ContentReader → PayloadShape → ContentReader
+abbrev pub content_in : ValueReader → ContentReader → PayloadShape → ContentReader
 content_in f h shape.Described code s = None
 content_in f h shape.Scalar code s = and_then (scalar_in code s) scalar_tree
 content_in f h (shape.List count) code s = and_then (counted_in count s) (parse_list f)
 content_in f h (shape.Map count) code s = and_then (counted_in count s) (parse_map f)
 content_in f h (shape.Array count) code s = and_then (counted_in count s) (parse_array h)
 
-abbrev pub content_of : FrameReader → ContentReader → ContentReader
+abbrev pub content_of : ValueReader → ContentReader → ContentReader
 content_of f h code s = content_in f h (shape_of_code code) code s
 
-abbrev pub parse_described : FrameReader → Descriptor × List ℕ → Option (Tree × List ℕ)
+abbrev pub parse_described : ValueReader → Descriptor × List ℕ → Option (Tree × List ℕ)
 parse_described f d = and_then (f d.1) (λ r. Some (tree.described d.0 r.0, r.1))
 
 -- The first encoded value.
-abbrev pub frame_in : FrameReader → ContentReader → FrameReader
-frame_in f h [] = None
-frame_in f h (byte ∷ s) =
+abbrev pub value_in_bytes : ValueReader → ContentReader → ValueReader
+value_in_bytes f h [] = None
+value_in_bytes f h (byte ∷ s) =
     if byte == 0 then and_then (descriptor_at s) (parse_described f) else and_then (primitive_of byte) (λ code. payload_in (content_of f h) code s)
 
 unfoldable mutual
   -- The first encoded value, with at most this depth.
   pub parse : ℕ → List ℕ → Option (Tree × List ℕ)
   parse zero s = None
-  parse (suc depth) s = frame_in (parse depth) (parse_content depth) s
+  parse (suc depth) s = value_in_bytes (parse depth) (parse_content depth) s
 
   -- A content with at most this depth.
   pub parse_content : ℕ → EncodingCodes → List ℕ → Option Tree

@@ -8,7 +8,7 @@ use Rattle.amqp_data.specs.declared.error.Error.TheVariants.{TooLong}
 use Rattle.amqp_data.specs.declared.format_code.EncodingCodes.{EncodingCodes}
 use Rattle.amqp_frame.specs.Code.{category}
 use Rattle.amqp_decode.specs.Codes.{primitive_of, shape_of_code}
-use Rattle.amqp_decode.specs.Parsed.{FrameReader, ContentReader, content_at, counted_in, descriptor_at, payload_in, parse, parse_content}
+use Rattle.amqp_decode.specs.Parsed.{ValueReader, ContentReader, content_at, counted_in, descriptor_at, payload_in, parse, parse_content}
 use Rattle.amqp_decode.specs.declared.payload_shape.PayloadShape.{PayloadShape}
 use Rattle.amqp_decode.specs.declared.payload_shape.PayloadShape.TheVariants as shape
 
@@ -29,7 +29,7 @@ if_read None count = 0
 if_read (Some a) count = count a
 
 -- The sum over `n` values, one after another.
-abbrev pub sum_of : Counter → FrameReader → ℕ → List ℕ → ℕ
+abbrev pub sum_of : Counter → ValueReader → ℕ → List ℕ → ℕ
 sum_of c f zero s = 0
 sum_of c f (suc n) s = c s + if_read (f s) (λ r. sum_of c f n r.1)
 
@@ -48,26 +48,26 @@ in_array k h (n, []) = 0
 in_array k h (n, c ∷ s) = if_read (primitive_of c) (λ code. in_items k h code n s)
 
 -- A content, an encoded value, and what is in them, given the numbers in values of less depth.
-abbrev pub in_shape : Counter → FrameReader → ContentCounter → ContentReader → PayloadShape → List ℕ → ℕ
+abbrev pub in_shape : Counter → ValueReader → ContentCounter → ContentReader → PayloadShape → List ℕ → ℕ
 in_shape c f k h shape.Described s = 0
 in_shape c f k h shape.Scalar s = 0
 in_shape c f k h (shape.List count) s = if_read (counted_in count s) (λ p. sum_of c f p.0 p.1)
 in_shape c f k h (shape.Map count) s = if_read (counted_in count s) (λ p. sum_of c f p.0 p.1)
 in_shape c f k h (shape.Array count) s = if_read (counted_in count s) (in_array k h)
 
-abbrev pub in_content : Counter → FrameReader → ContentCounter → ContentReader → ContentCounter
+abbrev pub in_content : Counter → ValueReader → ContentCounter → ContentReader → ContentCounter
 in_content c f k h code s = in_shape c f k h (shape_of_code code) s
 
-abbrev pub in_frame : Counter → FrameReader → ContentCounter → ContentReader → Counter
-in_frame c f k h [] = 0
-in_frame c f k h (byte ∷ s) =
+abbrev pub counted_in_value : Counter → ValueReader → ContentCounter → ContentReader → Counter
+counted_in_value c f k h [] = 0
+counted_in_value c f k h (byte ∷ s) =
     if byte == 0 then if_read (descriptor_at s) (λ d. c d.1) else if_read (primitive_of byte) (λ code. in_payload (in_content c f k h) code s)
 
 unfoldable mutual
   -- In the first encoded value of the bytes, with at most this depth.
   pub elements_without_bytes : ℕ → List ℕ → ℕ
   elements_without_bytes zero s = 0
-  elements_without_bytes (suc depth) s = in_frame (elements_without_bytes depth) (parse depth) (content_without_bytes depth) (parse_content depth) s
+  elements_without_bytes (suc depth) s = counted_in_value (elements_without_bytes depth) (parse depth) (content_without_bytes depth) (parse_content depth) s
 
   -- In a content with at most this depth.
   pub content_without_bytes : ℕ → EncodingCodes → List ℕ → ℕ
@@ -75,8 +75,8 @@ unfoldable mutual
   content_without_bytes (suc depth) code s = in_content (elements_without_bytes depth) (parse depth) (content_without_bytes depth) (parse_content depth) code s
 
 -- The same, in which the values inside have at most this depth.
-abbrev pub frame_around : ℕ → List ℕ → ℕ
-frame_around depth s = in_frame (elements_without_bytes depth) (parse depth) (content_without_bytes depth) (parse_content depth) s
+abbrev pub value_around : ℕ → List ℕ → ℕ
+value_around depth s = counted_in_value (elements_without_bytes depth) (parse depth) (content_without_bytes depth) (parse_content depth) s
 
 abbrev pub content_around : ℕ → EncodingCodes → List ℕ → ℕ
 content_around depth code s = in_content (elements_without_bytes depth) (parse depth) (content_without_bytes depth) (parse_content depth) code s

@@ -4,7 +4,7 @@ ghost use Rattle.std.specs.Prelude.{◌≡◌, ◌≤◌, ◌<◌, IfOk, IfErr};
 ghost use Rattle.amqp_data.specs.declared.error.Error.TheVariants.{OutOfMemory, TooLong};
 ghost use Rattle.amqp_ser.specs.Tree.{Tree};
 ghost use Rattle.amqp_value.specs.TreeOf.{tree_of};
-ghost use Rattle.amqp_decode.specs.Spells.{Spells};
+ghost use Rattle.amqp_decode.specs.Encodes.{Encodes};
 ghost use Rattle.amqp_decode.specs.WithoutBytes.{IsExceeded, IsWithin, elements_without_bytes};
 ghost use Rattle.amqp_decode.specs.Faults.{DecodeFails, FailsBy, decode_fault};
 
@@ -43,8 +43,8 @@ use std::alloc::Global;
 /// # Example
 /// `43`, `5200` and `7000000000` are the uint 0.
 pub fn decode_value(alloc: Global, bytes: &[u8]) -> Result<Value, Error>
-    ensures ok { IfOk result (λ v. Spells 256 bytes.now (tree_of v)) }
-    ensures err { IfErr result (λ e. ¬ (e ≡ OutOfMemory) → (t : Tree) → ¬ Spells 256 bytes.now t) }
+    ensures ok { IfOk result (λ v. Encodes 256 bytes.now (tree_of v)) }
+    ensures err { IfErr result (λ e. ¬ (e ≡ OutOfMemory) → (t : Tree) → ¬ Encodes 256 bytes.now t) }
     ensures fault { IfErr result (DecodeFails 256 bytes.now) }
 {
     decode_value_to_depth(alloc, bytes, None, 256)
@@ -67,12 +67,12 @@ pub fn decode_value(alloc: Global, bytes: &[u8]) -> Result<Value, Error>
 /// `e0020340`, an array of three nulls, fails with a limit of two elements and is accepted with a
 /// limit of three. A list of two such arrays requires a limit of six.
 pub fn decode_value_limited(alloc: Global, bytes: &[u8], elements: u32) -> Result<Value, Error>
-    ensures ok { IfOk result (λ v. Spells 256 bytes.now (tree_of v)) }
+    ensures ok { IfOk result (λ v. Encodes 256 bytes.now (tree_of v)) }
     ensures within { IfOk result (λ v. elements_without_bytes 256 bytes.now ≤ elements) }
     ensures too_long { IfErr result (λ e. e ≡ TooLong →
         elements < elements_without_bytes 256 bytes.now) }
     ensures err { IfErr result (λ e. ¬ (e ≡ OutOfMemory) → ¬ (e ≡ TooLong) →
-        (t : Tree) → ¬ Spells 256 bytes.now t) }
+        (t : Tree) → ¬ Encodes 256 bytes.now t) }
     ensures fault { FailsBy (decode_fault 256 bytes.now) result }
 {
     decode_value_to_depth(alloc, bytes, Some(elements), 256)
@@ -97,12 +97,12 @@ pub fn decode_value_to_depth(
     depth: u16,
 ) -> Result<Value, Error>
     requires { depth ≤ 256 }
-    ensures ok { IfOk result (λ v. Spells depth bytes.now (tree_of v)) }
+    ensures ok { IfOk result (λ v. Encodes depth bytes.now (tree_of v)) }
     ensures within { IfOk result (λ v. IsWithin elements (elements_without_bytes depth bytes.now)) }
     ensures too_long { IfErr result (λ e. e ≡ TooLong →
         IsExceeded elements (elements_without_bytes depth bytes.now)) }
     ensures err { IfErr result (λ e. ¬ (e ≡ OutOfMemory) → ¬ (e ≡ TooLong) →
-        (t : Tree) → ¬ Spells depth bytes.now t) }
+        (t : Tree) → ¬ Encodes depth bytes.now t) }
     ensures fault { FailsBy (decode_fault depth bytes.now) result }
 {
     let mut rest = bytes;

@@ -2,7 +2,7 @@
 
 ghost use Rattle.std.specs.Prelude.{◌≡◌, ◌∷◌, IfSome, Some};
 ghost use Rattle.amqp_value.specs.TreeOf.{tree_of};
-ghost use Rattle.amqp_decode.specs.Parsed.{FrameReader, ContentReader, frame_in};
+ghost use Rattle.amqp_decode.specs.Parsed.{ValueReader, ContentReader, value_in_bytes};
 ghost use Rattle.amqp_decode.specs.Parsed.{cut};
 ghost use Rattle.amqp_decode.specs.Scalars.{exact};
 
@@ -57,8 +57,8 @@ const TIMESTAMP: u8 = EncodingCodes::Timestamp as u8;
 /// numbers and timestamps. Returns `None` for any other code, and if the bytes end too early.
 #[inline(always)]
 pub fn read_fixed(code: u8, bytes: &[u8]) -> Option<(Value, &[u8])>
-    ensures found { IfSome result (λ r. (f : FrameReader) (h : ContentReader) →
-        frame_in f h (code ∷ bytes.now) ≡ Some (tree_of r.0, r.1.now)) }
+    ensures found { IfSome result (λ r. (f : ValueReader) (h : ContentReader) →
+        value_in_bytes f h (code ∷ bytes.now) ≡ Some (tree_of r.0, r.1.now)) }
     ensures primitive { IfSome result (λ r. ¬ (code ≡ 0)) }
 {
     match code {
@@ -98,8 +98,8 @@ pub fn read_fixed(code: u8, bytes: &[u8]) -> Option<(Value, &[u8])>
 // Like `read_fixed`, for the scalars of two and of four bytes.
 #[inline(always)]
 fn read_wide(code: u8, bytes: &[u8]) -> Option<(Value, &[u8])>
-    ensures found { IfSome result (λ r. (f : FrameReader) (h : ContentReader) →
-        frame_in f h (code ∷ bytes.now) ≡ Some (tree_of r.0, r.1.now)) }
+    ensures found { IfSome result (λ r. (f : ValueReader) (h : ContentReader) →
+        value_in_bytes f h (code ∷ bytes.now) ≡ Some (tree_of r.0, r.1.now)) }
     ensures primitive { IfSome result (λ r. ¬ (code ≡ 0)) }
 {
     match code {
@@ -133,8 +133,8 @@ fn read_wide(code: u8, bytes: &[u8]) -> Option<(Value, &[u8])>
 // Like `read_fixed`, for the scalars of eight bytes.
 #[inline(always)]
 fn read_widest(code: u8, bytes: &[u8]) -> Option<(Value, &[u8])>
-    ensures found { IfSome result (λ r. (f : FrameReader) (h : ContentReader) →
-        frame_in f h (code ∷ bytes.now) ≡ Some (tree_of r.0, r.1.now)) }
+    ensures found { IfSome result (λ r. (f : ValueReader) (h : ContentReader) →
+        value_in_bytes f h (code ∷ bytes.now) ≡ Some (tree_of r.0, r.1.now)) }
     ensures primitive { IfSome result (λ r. ¬ (code ≡ 0)) }
 {
     match code {

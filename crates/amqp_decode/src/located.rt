@@ -6,7 +6,7 @@ ghost use Rattle.amqp_ser.specs.Tree.{Tree};
 ghost use Rattle.amqp_value.specs.TreeOf.{tree_of};
 ghost use Rattle.amqp_decode.specs.Faults.{DecodeFails, decode_fault};
 ghost use Rattle.amqp_decode.specs.Located.{IsPlace, IsPlaced};
-ghost use Rattle.amqp_decode.specs.Spells.{Spells};
+ghost use Rattle.amqp_decode.specs.Encodes.{Encodes};
 ghost use Rattle.amqp_decode.specs.WithoutBytes.{elements_without_bytes};
 
 use crate::decode::{decode_value, decode_value_limited};
@@ -52,9 +52,9 @@ pub struct Located {
 /// `c003024046`, a list of null and a byte that is no format code, fails with `InvalidFormatCode`
 /// at offset 4 and depth 1.
 pub fn decode_value_located(alloc: Global, bytes: &[u8]) -> Result<Value, Located>
-    ensures ok { IfOk result (λ v. Spells 256 bytes.now (tree_of v)) }
+    ensures ok { IfOk result (λ v. Encodes 256 bytes.now (tree_of v)) }
     ensures err { IfErr result (λ e. ¬ (e.error ≡ OutOfMemory) →
-        (t : Tree) → ¬ Spells 256 bytes.now t) }
+        (t : Tree) → ¬ Encodes 256 bytes.now t) }
     ensures fault { IfErr result (λ e. DecodeFails 256 bytes.now e.error) }
     ensures place { IfErr result (λ e. ¬ (e.error ≡ OutOfMemory) → IsPlaced e.place 256 bytes.now) }
     ensures memory { IfErr result (λ e. e.error ≡ OutOfMemory → e.place ≡ None) }
@@ -85,12 +85,12 @@ pub fn decode_value_limited_located(
     bytes: &[u8],
     elements: u32,
 ) -> Result<Value, Located>
-    ensures ok { IfOk result (λ v. Spells 256 bytes.now (tree_of v)) }
+    ensures ok { IfOk result (λ v. Encodes 256 bytes.now (tree_of v)) }
     ensures within { IfOk result (λ v. elements_without_bytes 256 bytes.now ≤ elements) }
     ensures too_long { IfErr result (λ e. e.error ≡ TooLong →
         elements < elements_without_bytes 256 bytes.now) }
     ensures err { IfErr result (λ e. ¬ (e.error ≡ OutOfMemory) → ¬ (e.error ≡ TooLong) →
-        (t : Tree) → ¬ Spells 256 bytes.now t) }
+        (t : Tree) → ¬ Encodes 256 bytes.now t) }
     ensures fault { IfErr result (λ e. ¬ (e.error ≡ OutOfMemory) → ¬ (e.error ≡ TooLong) →
         e.error ≡ decode_fault 256 bytes.now) }
     ensures place { IfErr result (λ e. ¬ (e.error ≡ OutOfMemory) → ¬ (e.error ≡ TooLong) →
@@ -112,7 +112,7 @@ pub fn decode_value_limited_located(
 // failed.
 fn with_place(error: Error, bytes: &[u8]) -> Located
     ensures error { result.error ≡ error }
-    ensures place { ¬ (error ≡ OutOfMemory) → ((t : Tree) → ¬ Spells 256 bytes.now t) →
+    ensures place { ¬ (error ≡ OutOfMemory) → ((t : Tree) → ¬ Encodes 256 bytes.now t) →
         IsPlaced result.place 256 bytes.now }
     ensures memory { error ≡ OutOfMemory → result.place ≡ None }
 {
@@ -132,15 +132,15 @@ fn with_place(error: Error, bytes: &[u8]) -> Located
 /// # Example
 /// `None` for `40`, and offset 1 at depth 0 for `4040`.
 pub fn fault_place(bytes: &[u8]) -> Option<Place>
-    ensures none { IfNone result ((t : Tree) × Spells 256 bytes.now t) }
-    ensures err { OnSome result ((t : Tree) → ¬ Spells 256 bytes.now t) }
+    ensures none { IfNone result ((t : Tree) × Encodes 256 bytes.now t) }
+    ensures err { OnSome result ((t : Tree) → ¬ Encodes 256 bytes.now t) }
     ensures place { IfSome result (λ p. IsPlace p 256 bytes.now) }
 {
     match check_values(1, bytes, 256, 0) {
         Ok(()) => None,
-        Err(spot) => Some(Place {
-            offset: bytes.len().saturating_sub(spot.left),
-            depth: 256u16.saturating_sub(spot.levels),
+        Err(from_end) => Some(Place {
+            offset: bytes.len().saturating_sub(from_end.left),
+            depth: 256u16.saturating_sub(from_end.levels),
         }),
     }
 }

@@ -3,7 +3,7 @@
 ghost use Rattle.std.specs.Prelude.{◌≡◌, ◌∷◌, ◌++◌, [], ◌<◌, IfSome, IfNone, Some, vec_len, vec_capacity};
 ghost use Rattle.amqp_value.specs.TreeOf.{tree_of};
 ghost use Rattle.amqp_value.specs.declared.value.Value.{Value};
-ghost use Rattle.amqp_decode.specs.Parsed.{FrameReader, ContentReader, frame_in};
+ghost use Rattle.amqp_decode.specs.Parsed.{ValueReader, ContentReader, value_in_bytes};
 
 use crate::fixed::read_fixed;
 use amqp_data::EncodingCodes;
@@ -50,8 +50,8 @@ const TIMESTAMP: u8 = EncodingCodes::Timestamp as u8;
 pub fn push_fixed<'a>(code: u8, bytes: &'a [u8], list: &mut Vec<Value>) -> Option<&'a [u8]>
     requires { vec_len list.old < vec_capacity list.old }
     ensures found { IfSome result (λ rest. (v : Value) × (list.new.items ≡ list.old.items ++ v ∷ [])
-        × ((f : FrameReader) (h : ContentReader) →
-        frame_in f h (code ∷ bytes.now) ≡ Some (tree_of v, rest.now))) }
+        × ((f : ValueReader) (h : ContentReader) →
+        value_in_bytes f h (code ∷ bytes.now) ≡ Some (tree_of v, rest.now))) }
     ensures unchanged { IfNone result (list.new.items ≡ list.old.items) }
     ensures room { IfNone result (vec_len list.new < vec_capacity list.new) }
 {
@@ -81,8 +81,8 @@ pub fn push_fixed<'a>(code: u8, bytes: &'a [u8], list: &mut Vec<Value>) -> Optio
 fn push_at<'a>(code: u8, bytes: &'a [u8], list: &mut Vec<Value>) -> Option<&'a [u8]>
     requires { vec_len list.old < vec_capacity list.old }
     ensures found { IfSome result (λ rest. (v : Value) × (list.new.items ≡ list.old.items ++ v ∷ [])
-        × ((f : FrameReader) (h : ContentReader) →
-        frame_in f h (code ∷ bytes.now) ≡ Some (tree_of v, rest.now))) }
+        × ((f : ValueReader) (h : ContentReader) →
+        value_in_bytes f h (code ∷ bytes.now) ≡ Some (tree_of v, rest.now))) }
     ensures unchanged { IfNone result (list.new.items ≡ list.old.items) }
     ensures room { IfNone result (vec_len list.new < vec_capacity list.new) }
 {

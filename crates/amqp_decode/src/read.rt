@@ -5,8 +5,8 @@ ghost use Rattle.amqp_data.specs.declared.error.Error.TheVariants.{OutOfMemory, 
 ghost use Rattle.amqp_value.specs.TreeOf.{tree_of};
 ghost use Rattle.amqp_value.specs.declared.value.Value.{Value};
 ghost use Rattle.amqp_decode.specs.Scalars.{and_then};
-ghost use Rattle.amqp_decode.specs.WithoutBytes.{Spends, content_around, content_without_bytes, elements_without_bytes, frame_around, in_array, in_payload, sum_of};
-ghost use Rattle.amqp_decode.specs.Parsed.{all, gather, parse, parse_content, payload_in, content_of, frame_in, parse_list, parse_map, parse_array};
+ghost use Rattle.amqp_decode.specs.WithoutBytes.{Spends, content_around, content_without_bytes, elements_without_bytes, value_around, in_array, in_payload, sum_of};
+ghost use Rattle.amqp_decode.specs.Parsed.{all, gather, parse, parse_content, payload_in, content_of, value_in_bytes, parse_list, parse_map, parse_array};
 ghost use Rattle.amqp_decode.specs.Faults.{FailsBy, content_fault, fault_around, fault_in, fault_in_item, fault_of_array, fault_of_map, fault_of_payload, fault_of_values};
 
 use crate::fixed::read_fixed;
@@ -14,7 +14,7 @@ use crate::limit::spend_items;
 use crate::payload::{read_count, read_payload};
 use crate::payload_shape::{PayloadShape, payload_shape, primitive_code};
 use crate::push::push_fixed;
-use crate::reserve::{make_room, reserved, reserved_of_a_map};
+use crate::reserve::{reserve_element, reserved, reserved_of_a_map};
 use crate::run::read_run;
 use crate::scalar::{read_descriptor, read_scalar};
 use amqp_data::{Array, Described, EncodingCodes, Error};
@@ -97,11 +97,11 @@ pub fn read_after_code(
     spare: usize,
 ) -> Result<Value, Error>
     ensures ok { IfOk result (λ v.
-        frame_in (parse depth) (parse_content depth) (code ∷ bytes.old.now)
+        value_in_bytes (parse depth) (parse_content depth) (code ∷ bytes.old.now)
         ≡ Some (tree_of v, bytes.new.now)) }
     ensures err { IfErr result (λ e. ¬ (e ≡ OutOfMemory) → ¬ (e ≡ TooLong) →
-        frame_in (parse depth) (parse_content depth) (code ∷ bytes.old.now) ≡ None) }
-    ensures limit { Spends result limit.old limit.new (frame_around depth (code ∷ bytes.old.now)) }
+        value_in_bytes (parse depth) (parse_content depth) (code ∷ bytes.old.now) ≡ None) }
+    ensures limit { Spends result limit.old limit.new (value_around depth (code ∷ bytes.old.now)) }
     ensures fault { FailsBy (fault_around depth (code ∷ bytes.old.now)) result }
 {
     if code == 0 {
@@ -130,11 +130,11 @@ fn read_described(
     spare: usize,
 ) -> Result<Value, Error>
     ensures ok { IfOk result (λ v.
-        frame_in (parse depth) (parse_content depth) (0 ∷ bytes.old.now)
+        value_in_bytes (parse depth) (parse_content depth) (0 ∷ bytes.old.now)
         ≡ Some (tree_of v, bytes.new.now)) }
     ensures err { IfErr result (λ e. ¬ (e ≡ OutOfMemory) → ¬ (e ≡ TooLong) →
-        frame_in (parse depth) (parse_content depth) (0 ∷ bytes.old.now) ≡ None) }
-    ensures limit { Spends result limit.old limit.new (frame_around depth (0 ∷ bytes.old.now)) }
+        value_in_bytes (parse depth) (parse_content depth) (0 ∷ bytes.old.now) ≡ None) }
+    ensures limit { Spends result limit.old limit.new (value_around depth (0 ∷ bytes.old.now)) }
     ensures fault { FailsBy (fault_around depth (0 ∷ bytes.old.now)) result }
 {
     let (descriptor, rest) = read_descriptor(alloc, bytes)?;
@@ -193,7 +193,7 @@ fn read_content(
         PayloadShape::Scalar => read_scalar(alloc, code, content),
         PayloadShape::List(count) => {
             let (count, body) = read_count(count, content)?;
-            read_list(alloc, count, body, depth, limit, spare)
+            decode_list(alloc, count, body, depth, limit, spare)
         }
         PayloadShape::Map(count) => {
             let (count, body) = read_count(count, content)?;
@@ -201,7 +201,7 @@ fn read_content(
         }
         PayloadShape::Array(count) => {
             let (count, body) = read_count(count, content)?;
-            read_array(alloc, count, body, depth, limit, spare)
+            decode_array(alloc, count, body, depth, limit, spare)
         }
     }
 }
@@ -236,7 +236,7 @@ fn read_item(
 // Reads `count` elements that must fill `body`.
 #[cycle(read)]
 #[inline(never)]
-fn read_list(
+fn decode_list(
     alloc: Global,
     count: u32,
     body: &[u8],
@@ -258,7 +258,7 @@ fn read_list(
     let mut list = Vec::with_capacity(alloc, room)?;
     let mut rest = body;
     for read in 0..count {
-        make_room(&mut list, ((count - read) as usize).min(rest.len().max(1)))?;
+        reserve_element(&mut list, ((count - read) as usize).min(rest.len().max(1)))?;
         push_value(alloc, &mut rest, depth, limit, spare - room, &mut list)?;
     }
     if rest.is_empty() {
@@ -344,7 +344,7 @@ fn read_entries(
 // Reads a constructor and `count` payloads of it that must fill `body`.
 #[cycle(read)]
 #[inline(never)]
-fn read_array(
+fn decode_array(
     alloc: Global,
     count: u32,
     body: &[u8],

@@ -5,13 +5,13 @@ ghost use Rattle.std.specs.Prelude.{◌≡◌, ◌<◌, ◌≤◌, length, OnOk,
 use std::alloc::AllocError;
 
 /// The largest number of elements that are reserved by a count. They take 2,048 bytes.
-const MOST: usize = 64;
+const MAX_RESERVED: usize = 64;
 
 /// The largest number of entries that are reserved by a count. They take 4,096 bytes.
-const MOST_ENTRIES: u32 = 64;
+const MAX_RESERVED_ENTRIES: u32 = 64;
 
 /// The smallest number of elements of a longer list, and of entries of a map, that are reserved.
-const LEAST: usize = 4;
+const MIN_RESERVED: usize = 4;
 
 /// Returns for how many elements of a list memory is reserved before they are read: all of a list
 /// of at most 64, and four of a longer one.
@@ -24,10 +24,10 @@ pub fn reserved(count: u32, body: &[u8], spare: usize) -> usize
     ensures few { length body.now < count → result ≤ 4 }
 {
     let most = (count as usize).min(body.len());
-    if most == count as usize && most <= MOST && most <= spare {
+    if most == count as usize && most <= MAX_RESERVED && most <= spare {
         most
     } else {
-        most.min(LEAST).min(spare)
+        most.min(MIN_RESERVED).min(spare)
     }
 }
 
@@ -43,10 +43,10 @@ pub fn reserved_of_a_map(count: u32, body: &[u8], spare: usize) -> usize
     ensures none { length body.now < count → result ≡ 0 }
 {
     let entries = count / 2;
-    if entries == 0 || entries > MOST_ENTRIES || count as usize > body.len() {
+    if entries == 0 || entries > MAX_RESERVED_ENTRIES || count as usize > body.len() {
         return 0;
     }
-    let room = 2 * (entries as usize).next_power_of_two().max(LEAST);
+    let room = 2 * (entries as usize).next_power_of_two().max(MIN_RESERVED);
     if room <= spare { room } else { 0 }
 }
 
@@ -59,7 +59,7 @@ pub fn reserved_of_a_map(count: u32, body: &[u8], spare: usize) -> usize
 /// Doubles the capacity if it is used up, but reserves no more than the missing elements. A list
 /// with no capacity reserves one element.
 #[inline(always)]
-pub fn make_room<T>(list: &mut Vec<T>, missing: usize) -> Result<(), AllocError>
+pub fn reserve_element<T>(list: &mut Vec<T>, missing: usize) -> Result<(), AllocError>
     requires { 0 < missing }
     ensures items { list.new.items ≡ list.old.items }
     ensures room { OnOk result (vec_len list.new < vec_capacity list.new) }
@@ -70,7 +70,7 @@ pub fn make_room<T>(list: &mut Vec<T>, missing: usize) -> Result<(), AllocError>
     let more = if list.is_empty() {
         1
     } else {
-        list.len().max(LEAST)
+        list.len().max(MIN_RESERVED)
     };
     list.reserve_exact(more.min(missing))
 }

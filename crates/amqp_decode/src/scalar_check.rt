@@ -5,8 +5,8 @@ ghost use Rattle.std.specs.Int.{from_be_bytes, w32};
 ghost use Rattle.std.specs.Str.{is_utf8};
 ghost use Rattle.amqp_ser.specs.Tree.{Descriptor, Scalar};
 ghost use Rattle.amqp_decode.specs.Parsed.{descriptor_at};
-ghost use Rattle.amqp_decode.specs.Places.{is_text, names_descriptor, spot_of_descriptor, spot_of_scalar, spot_of_text};
-ghost use Rattle.amqp_decode.specs.SpotAt.{IsAt};
+ghost use Rattle.amqp_decode.specs.Places.{is_text, names_descriptor, place_of_descriptor, place_of_scalar, place_of_text};
+ghost use Rattle.amqp_decode.specs.PlaceAt.{IsAt};
 ghost use Rattle.amqp_decode.specs.Scalars.{and_then, character, exact, scalar_in, single, truth};
 
 use crate::payload::read_payload;
@@ -15,7 +15,7 @@ use amqp_data::EncodingCodes;
 
 /// Where a fault is.
 #[derive(Clone, Copy, Debug, PartialEq, Eq)]
-pub struct Spot {
+pub struct PlaceFromEnd {
     /// The number of bytes from the fault to the end of the input.
     pub left: usize,
     /// The number of levels that a value there may have.
@@ -126,17 +126,17 @@ fn is_scalar(code: EncodingCodes, content: &[u8]) -> bool
 }
 
 // Returns where the content is no UTF-8. There are `after` bytes after it.
-fn text_spot(content: &[u8], levels: u16, after: usize) -> Spot
+fn text_place(content: &[u8], levels: u16, after: usize) -> PlaceFromEnd
     requires invalid { is_utf8 content.now ≡ false }
     requires fits { length content.now + after < 2 ^ 64 }
-    ensures { IsAt result (spot_of_text levels after content.now) }
+    ensures { IsAt result (place_of_text levels after content.now) }
 {
     match std::str::from_utf8(content) {
-        Ok(_) => Spot {
+        Ok(_) => PlaceFromEnd {
             left: after,
             levels,
         },
-        Err(error) => Spot {
+        Err(error) => PlaceFromEnd {
             left: content.len() - error.valid_up_to() + after,
             levels,
         },
@@ -152,19 +152,19 @@ pub fn check_scalar(
     content: &[u8],
     levels: u16,
     after: usize,
-) -> Result<(), Spot>
+) -> Result<(), PlaceFromEnd>
     requires fits { length content.now + after < 2 ^ 64 }
     ensures ok { OnOk result ((s : Scalar) × (scalar_in code content.now ≡ Some s)) }
     ensures err { OnErr result (scalar_in code content.now ≡ None) }
-    ensures spot { IfErr result (λ p.
-        IsAt p (spot_of_scalar levels code after content.now)) }
+    ensures from_end { IfErr result (λ p.
+        IsAt p (place_of_scalar levels code after content.now)) }
 {
     if is_scalar(code, content) {
         Ok(())
     } else if is_text(code) {
-        Err(text_spot(content, levels, after))
+        Err(text_place(content, levels, after))
     } else {
-        Err(Spot {
+        Err(PlaceFromEnd {
             left: content.len() + after,
             levels,
         })
@@ -177,22 +177,22 @@ pub fn check_scalar(
 /// # Errors
 /// Returns the place of the fault.
 #[tactic(auto, unfolding(crate::specs::Parsed::descriptor_at))]
-pub fn skip_descriptor(bytes: &[u8], levels: u16, after: usize) -> Result<&[u8], Spot>
+pub fn skip_descriptor(bytes: &[u8], levels: u16, after: usize) -> Result<&[u8], PlaceFromEnd>
     requires fits { length bytes.now + after < 2 ^ 64 }
     ensures ok { IfOk result (λ rest.
         (d : Descriptor) × (descriptor_at bytes.now ≡ Some (d, rest.now))) }
     ensures shorter { IfOk result (λ rest. length rest.now ≤ length bytes.now) }
     ensures err { OnErr result (descriptor_at bytes.now ≡ None) }
-    ensures spot { IfErr result (λ p.
-        IsAt p (spot_of_descriptor levels after bytes.now)) }
+    ensures from_end { IfErr result (λ p.
+        IsAt p (place_of_descriptor levels after bytes.now)) }
 {
     let Some((byte, payload)) = bytes.split_first() else {
-        return Err(Spot {
+        return Err(PlaceFromEnd {
             left: after,
             levels,
         });
     };
-    let here = Spot {
+    let here = PlaceFromEnd {
         left: bytes.len() + after,
         levels,
     };
@@ -200,7 +200,7 @@ pub fn skip_descriptor(bytes: &[u8], levels: u16, after: usize) -> Result<&[u8],
         return Err(here);
     };
     let Ok((content, rest)) = read_payload(code, payload) else {
-        return Err(Spot {
+        return Err(PlaceFromEnd {
             left: after,
             levels,
         });

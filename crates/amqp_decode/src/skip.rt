@@ -2,26 +2,26 @@
 
 ghost use Rattle.std.specs.Prelude.{◌≡◌, [], ◌∷◌, ◌+◌, ◌-◌, ◌<◌, ◌≤◌, ◌^◌, IfOk, IfErr, OnOk, OnErr, Some, None, length};
 ghost use Rattle.amqp_ser.specs.Tree.{Tree};
-ghost use Rattle.amqp_decode.specs.Parsed.{content_of, frame_in, parse, parse_array, parse_content, payload_in};
-ghost use Rattle.amqp_decode.specs.SpotAt.{IsAt};
-ghost use Rattle.amqp_decode.specs.Places.{content_spot, skips, spot_around, spot_in, spot_in_item, spot_of_array, spot_of_payload, spot_of_values};
+ghost use Rattle.amqp_decode.specs.Parsed.{content_of, value_in_bytes, parse, parse_array, parse_content, payload_in};
+ghost use Rattle.amqp_decode.specs.PlaceAt.{IsAt};
+ghost use Rattle.amqp_decode.specs.Places.{content_place, skips, place_around, place_in, place_in_item, place_of_array, place_of_payload, place_of_values};
 
 use crate::payload::{read_count, read_payload};
 use crate::payload_shape::{PayloadShape, has_no_payload, payload_shape, primitive_code};
-use crate::scalar_check::{Spot, check_scalar, skip_descriptor};
+use crate::scalar_check::{PlaceFromEnd, check_scalar, skip_descriptor};
 use amqp_data::EncodingCodes;
 
 // Skips the first encoded value of `bytes`, with at most `depth` levels, and returns the bytes after
 // it. There are `after` bytes after those in the input.
 #[cycle(skip)]
-fn skip_value(bytes: &[u8], depth: u16, after: usize) -> Result<&[u8], Spot>
+fn skip_value(bytes: &[u8], depth: u16, after: usize) -> Result<&[u8], PlaceFromEnd>
     requires fits { length bytes.now + after < 2 ^ 64 }
     ensures ok { IfOk result (λ rest. (t : Tree) × (parse depth bytes.now ≡ Some (t, rest.now))) }
     ensures shorter { IfOk result (λ rest. length rest.now ≤ length bytes.now) }
     ensures err { OnErr result (parse depth bytes.now ≡ None) }
-    ensures spot { IfErr result (λ p. IsAt p (spot_in depth after bytes.now)) }
+    ensures from_end { IfErr result (λ p. IsAt p (place_in depth after bytes.now)) }
 {
-    let here = Spot {
+    let here = PlaceFromEnd {
         left: bytes.len() + after,
         levels: depth,
     };
@@ -42,17 +42,17 @@ fn skip_value(bytes: &[u8], depth: u16, after: usize) -> Result<&[u8], Spot>
 
 // Like `skip_value`, after the code of a described value.
 #[cycle(skip)]
-fn skip_described(bytes: &[u8], depth: u16, after: usize) -> Result<&[u8], Spot>
+fn skip_described(bytes: &[u8], depth: u16, after: usize) -> Result<&[u8], PlaceFromEnd>
     requires fits { length bytes.now + after < 2 ^ 64 }
     requires above { 0 < depth }
     ensures ok { IfOk result (λ rest. (t : Tree) ×
-        (frame_in (parse (depth - 1)) (parse_content (depth - 1)) (0 ∷ bytes.now)
+        (value_in_bytes (parse (depth - 1)) (parse_content (depth - 1)) (0 ∷ bytes.now)
         ≡ Some (t, rest.now))) }
     ensures shorter { IfOk result (λ rest. length rest.now ≤ length bytes.now) }
     ensures err { OnErr result
-        (frame_in (parse (depth - 1)) (parse_content (depth - 1)) (0 ∷ bytes.now) ≡ None) }
-    ensures spot { IfErr result (λ p.
-        IsAt p (spot_around (depth - 1) after (0 ∷ bytes.now))) }
+        (value_in_bytes (parse (depth - 1)) (parse_content (depth - 1)) (0 ∷ bytes.now) ≡ None) }
+    ensures from_end { IfErr result (λ p.
+        IsAt p (place_around (depth - 1) after (0 ∷ bytes.now))) }
 {
     let rest = skip_descriptor(bytes, depth - 1, after)?;
     skip_value(rest, depth - 1, after)
@@ -60,7 +60,7 @@ fn skip_described(bytes: &[u8], depth: u16, after: usize) -> Result<&[u8], Spot>
 
 // Skips the payload of this code, of a value with at most `depth` levels.
 #[cycle(skip)]
-fn skip_payload(code: EncodingCodes, bytes: &[u8], depth: u16, after: usize) -> Result<&[u8], Spot>
+fn skip_payload(code: EncodingCodes, bytes: &[u8], depth: u16, after: usize) -> Result<&[u8], PlaceFromEnd>
     requires fits { length bytes.now + after < 2 ^ 64 }
     requires above { 0 < depth }
     ensures ok { IfOk result (λ rest. (t : Tree) ×
@@ -70,10 +70,10 @@ fn skip_payload(code: EncodingCodes, bytes: &[u8], depth: u16, after: usize) -> 
     ensures err { OnErr result
         (payload_in (content_of (parse (depth - 1)) (parse_content (depth - 1))) code bytes.now
         ≡ None) }
-    ensures spot { IfErr result (λ p. IsAt p (spot_of_payload (content_spot (depth - 1)) depth code after bytes.now)) }
+    ensures from_end { IfErr result (λ p. IsAt p (place_of_payload (content_place (depth - 1)) depth code after bytes.now)) }
 {
     let Ok((content, rest)) = read_payload(code, bytes) else {
-        return Err(Spot {
+        return Err(PlaceFromEnd {
             left: after,
             levels: depth,
         });
@@ -84,22 +84,22 @@ fn skip_payload(code: EncodingCodes, bytes: &[u8], depth: u16, after: usize) -> 
 
 // Checks the content of a payload of this code. `depth` limits the values inside.
 #[cycle(skip)]
-fn check_content(code: EncodingCodes, content: &[u8], depth: u16, after: usize) -> Result<(), Spot>
+fn check_content(code: EncodingCodes, content: &[u8], depth: u16, after: usize) -> Result<(), PlaceFromEnd>
     requires fits { length content.now + after < 2 ^ 64 }
     requires below { depth + 1 < 2 ^ 16 }
     ensures ok { OnOk result ((t : Tree) ×
         (content_of (parse depth) (parse_content depth) code content.now ≡ Some t)) }
     ensures err { OnErr result
         (content_of (parse depth) (parse_content depth) code content.now ≡ None) }
-    ensures spot { IfErr result (λ p.
-        IsAt p (content_spot depth code after content.now)) }
+    ensures from_end { IfErr result (λ p.
+        IsAt p (content_place depth code after content.now)) }
 {
-    let end = Spot {
+    let end = PlaceFromEnd {
         left: after,
         levels: depth,
     };
     match payload_shape(code) {
-        PayloadShape::Described => Err(Spot {
+        PayloadShape::Described => Err(PlaceFromEnd {
             left: content.len() + after,
             levels: depth + 1,
         }),
@@ -111,7 +111,7 @@ fn check_content(code: EncodingCodes, content: &[u8], depth: u16, after: usize) 
         PayloadShape::Map(count) => match read_count(count, content) {
             Ok((count, body)) => {
                 if count % 2 != 0 {
-                    return Err(Spot {
+                    return Err(PlaceFromEnd {
                         left: body.len() + after + 1,
                         levels: depth,
                     });
@@ -133,11 +133,11 @@ fn check_content(code: EncodingCodes, content: &[u8], depth: u16, after: usize) 
 /// # Errors
 /// Returns the place of the first fault.
 #[cycle(skip)]
-pub fn check_values(count: u32, body: &[u8], depth: u16, after: usize) -> Result<(), Spot>
+pub fn check_values(count: u32, body: &[u8], depth: u16, after: usize) -> Result<(), PlaceFromEnd>
     requires fits { length body.now + after < 2 ^ 64 }
     ensures ok { OnOk result (skips (parse depth) count body.now ≡ Some []) }
     ensures err { OnErr result (¬ (skips (parse depth) count body.now ≡ Some [])) }
-    ensures spot { IfErr result (λ p. IsAt p (spot_of_values (spot_in depth) (parse depth) depth count after body.now)) }
+    ensures from_end { IfErr result (λ p. IsAt p (place_of_values (place_in depth) (parse depth) depth count after body.now)) }
 {
     let mut rest = body;
     for _ in 0..count {
@@ -147,7 +147,7 @@ pub fn check_values(count: u32, body: &[u8], depth: u16, after: usize) -> Result
     if rest.is_empty() {
         Ok(())
     } else {
-        Err(Spot {
+        Err(PlaceFromEnd {
             left: rest.len() + after,
             levels: depth,
         })
@@ -156,14 +156,14 @@ pub fn check_values(count: u32, body: &[u8], depth: u16, after: usize) -> Result
 
 // Checks that a constructor and `count` payloads of it fill `body`.
 #[cycle(skip)]
-fn check_array(count: u32, body: &[u8], depth: u16, after: usize) -> Result<(), Spot>
+fn check_array(count: u32, body: &[u8], depth: u16, after: usize) -> Result<(), PlaceFromEnd>
     requires fits { length body.now + after < 2 ^ 64 }
     ensures ok { OnOk result ((t : Tree) ×
         (parse_array (parse_content depth) (count, body.now) ≡ Some t)) }
     ensures err { OnErr result (parse_array (parse_content depth) (count, body.now) ≡ None) }
-    ensures spot { IfErr result (λ p. IsAt p (spot_of_array (spot_in_item depth) (parse_content depth) depth after (count, body.now))) }
+    ensures from_end { IfErr result (λ p. IsAt p (place_of_array (place_in_item depth) (parse_content depth) depth after (count, body.now))) }
 {
-    let here = Spot {
+    let here = PlaceFromEnd {
         left: body.len() + after,
         levels: depth,
     };
@@ -189,13 +189,13 @@ fn check_items(
     payloads: &[u8],
     depth: u16,
     after: usize,
-) -> Result<(), Spot>
+) -> Result<(), PlaceFromEnd>
     requires fits { length payloads.now + after < 2 ^ 64 }
     ensures ok { OnOk result
         (skips (payload_in (parse_content depth) code) count payloads.now ≡ Some []) }
     ensures err { OnErr result
         (¬ (skips (payload_in (parse_content depth) code) count payloads.now ≡ Some [])) }
-    ensures spot { IfErr result (λ p. IsAt p (spot_of_values (spot_in_item depth code)
+    ensures from_end { IfErr result (λ p. IsAt p (place_of_values (place_in_item depth code)
         (payload_in (parse_content depth) code) depth count after payloads.now)) }
 {
     let mut rest = payloads;
@@ -206,7 +206,7 @@ fn check_items(
     if rest.is_empty() {
         Ok(())
     } else {
-        Err(Spot {
+        Err(PlaceFromEnd {
             left: rest.len() + after,
             levels: depth,
         })
@@ -215,17 +215,17 @@ fn check_items(
 
 // Skips the payload of this code at the start of `bytes`, as an array element.
 #[cycle(skip)]
-fn skip_item(code: EncodingCodes, bytes: &[u8], depth: u16, after: usize) -> Result<&[u8], Spot>
+fn skip_item(code: EncodingCodes, bytes: &[u8], depth: u16, after: usize) -> Result<&[u8], PlaceFromEnd>
     requires fits { length bytes.now + after < 2 ^ 64 }
     ensures ok { IfOk result (λ rest. (t : Tree) ×
         (payload_in (parse_content depth) code bytes.now ≡ Some (t, rest.now))) }
     ensures shorter { IfOk result (λ rest. length rest.now ≤ length bytes.now) }
     ensures err { OnErr result (payload_in (parse_content depth) code bytes.now ≡ None) }
-    ensures spot { IfErr result (λ p.
-        IsAt p (spot_in_item depth code after bytes.now)) }
+    ensures from_end { IfErr result (λ p.
+        IsAt p (place_in_item depth code after bytes.now)) }
 {
     if depth == 0 {
-        return Err(Spot {
+        return Err(PlaceFromEnd {
             left: bytes.len() + after,
             levels: 0,
         });

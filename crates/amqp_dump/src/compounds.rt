@@ -4,14 +4,14 @@ ghost use Rattle.amqp_dump.specs.Kept.{Stays};
 
 use crate::fault::Fault;
 use crate::item::ItemKind;
-use crate::kinds::{Kind, kind_of};
+use crate::kinds::{PrimitiveType, type_of_code};
 use crate::level::{Level, LevelKind};
 use crate::scanner::Scanner;
 use crate::source::{Taking, take_byte};
 
 impl Scanner {
     // The level of a compound with this many values that ends at this offset.
-    pub(crate) fn compound(&self, kind: Kind, count: u32, end: u64) -> Level {
+    pub(crate) fn compound(&self, kind: PrimitiveType, count: u32, end: u64) -> Level {
         let descriptor = match self.levels.last() {
             Some(level) if level.kind == LevelKind::Described && level.index == 2 => {
                 level.descriptor
@@ -24,7 +24,7 @@ impl Scanner {
             count,
             end,
             code: 0,
-            descriptor: if kind == Kind::List { descriptor } else { None },
+            descriptor: if kind == PrimitiveType::List { descriptor } else { None },
         }
     }
 
@@ -52,14 +52,14 @@ impl Scanner {
     pub(crate) fn open_compound<S: Taking>(
         &mut self,
         source: &mut S,
-        kind: Kind,
+        kind: PrimitiveType,
         wide: bool,
     ) -> Result<ItemKind, Fault>
         ensures kept { Stays (S.held source.old) (S.left source.old) (S.held source.new)
             (S.left source.new) }
     {
         let (size, count, end) = self.take_header(source, wide)?;
-        if kind == Kind::Map && count % 2 == 1 {
+        if kind == PrimitiveType::Map && count % 2 == 1 {
             return Err(Fault::OddCount);
         }
         let level = self.compound(kind, count, end);
@@ -77,12 +77,12 @@ impl Scanner {
             (S.left source.new) }
     {
         let (size, count, end) = self.take_header(source, wide)?;
-        let level = self.compound(Kind::Array, count, end);
+        let level = self.compound(PrimitiveType::Array, count, end);
         self.push(level)?;
         if count > 0 || size > 0 {
             self.take_constructor(source)?;
         }
-        Ok(ItemKind::Opens(Kind::Array, count, size))
+        Ok(ItemKind::Opens(PrimitiveType::Array, count, size))
     }
 
     // Takes the constructor of the innermost array, or the 00 before its descriptor.
@@ -92,7 +92,7 @@ impl Scanner {
     {
         self.need(source, 1)?;
         let code = take_byte(source)?;
-        if code != 0 && kind_of(code).is_none() {
+        if code != 0 && type_of_code(code).is_none() {
             return Err(Fault::FormatCode);
         }
         if let Some(level) = self.levels.last_mut() {
@@ -100,7 +100,7 @@ impl Scanner {
             level.kind = if code == 0 {
                 LevelKind::Constructor
             } else {
-                LevelKind::Compound(Kind::Array)
+                LevelKind::Compound(PrimitiveType::Array)
             };
         }
         Ok(ItemKind::Constructor)
@@ -127,9 +127,9 @@ impl Scanner {
                 self.advance();
                 let piece = self.piece;
                 self.piece = piece.max(255);
-                let taken = self.take_payload(source, code);
+                let item_bytes = self.take_payload(source, code);
                 self.piece = piece;
-                let _ = taken?;
+                let _ = item_bytes?;
                 Ok(ItemKind::Described(self.name_descriptor(source)))
             }
             Some(_) => Ok(ItemKind::Reserved),

@@ -2,7 +2,7 @@
 
 use crate::fault::Fault;
 use crate::item::{Item, ItemKind};
-use crate::kinds::{Kind, kind_of};
+use crate::kinds::{PrimitiveType, type_of_code};
 use crate::level::{Level, LevelKind};
 use crate::line::{Line, Part};
 use crate::names;
@@ -22,7 +22,7 @@ pub(crate) fn describe(
     match item.kind {
         ItemKind::End | ItemKind::Closes(_) | ItemKind::More(_, _) => Ok(()),
         ItemKind::Described(code) => describe_descriptor(alloc, line, code, bytes),
-        ItemKind::Reserved => line.word(Part::Kind, "described"),
+        ItemKind::Reserved => line.word(Part::PrimitiveType, "described"),
         ItemKind::Opens(kind, count, _) => describe_compound(line, kind, count, levels),
         ItemKind::Constructor => describe_elements(line, "constructor", levels),
         ItemKind::Repeats(count) => describe_repeated(line, count, levels),
@@ -38,9 +38,9 @@ pub(crate) fn describe(
         }
         ItemKind::Protocol => describe_protocol(line, bytes),
         ItemKind::Frame(kind, channel) => describe_frame(line, kind, channel, bytes),
-        ItemKind::Extended => line.word(Part::Kind, "extended header"),
+        ItemKind::Extended => line.word(Part::PrimitiveType, "extended header"),
         ItemKind::Raw => {
-            line.word(Part::Kind, "payload")?;
+            line.word(Part::PrimitiveType, "payload")?;
             push_printable(line, bytes)
         }
     }
@@ -49,7 +49,7 @@ pub(crate) fn describe(
 /// Whether the innermost level is an array, whose elements have no format codes.
 pub(crate) fn is_in_array(levels: &[Level]) -> bool {
     match levels.last() {
-        Some(level) => level.kind == LevelKind::Compound(Kind::Array),
+        Some(level) => level.kind == LevelKind::Compound(PrimitiveType::Array),
         None => false,
     }
 }
@@ -78,24 +78,24 @@ pub(crate) fn push_descriptor(alloc: Global, line: &mut Line, bytes: &[u8]) -> R
         write!(line.text, "0x{code:x}")?;
         return Ok(());
     }
-    push_value(&mut line.text, &mut line.shown, &value)
+    push_value(&mut line.text, &mut line.value_text, &value)
 }
 
 fn describe_compound(
     line: &mut Line,
-    kind: Kind,
+    kind: PrimitiveType,
     count: u32,
     levels: &[Level],
 ) -> Result<(), Fault> {
     let (count, one, more) = match kind {
-        Kind::Map => (count / 2, "entry", "entries"),
-        Kind::Array => (count, "element", "elements"),
+        PrimitiveType::Map => (count / 2, "entry", "entries"),
+        PrimitiveType::Array => (count, "element", "elements"),
         _ => (count, "value", "values"),
     };
-    if kind == Kind::Array {
+    if kind == PrimitiveType::Array {
         describe_elements(line, kind.name(), levels)?;
     } else {
-        line.word(Part::Kind, kind.name())?;
+        line.word(Part::PrimitiveType, kind.name())?;
     }
     let unit = if count == 1 { one } else { more };
     write!(line.text, " {count} {unit}")?;
@@ -103,16 +103,16 @@ fn describe_compound(
 }
 
 /// The kind of the elements of the innermost array, and their format code.
-pub(crate) fn element_kind(levels: &[Level]) -> Option<(Kind, u8)> {
+pub(crate) fn element_kind(levels: &[Level]) -> Option<(PrimitiveType, u8)> {
     let level = levels.last()?;
-    let (kind, _) = kind_of(level.code)?;
+    let (kind, _) = type_of_code(level.code)?;
     Some((kind, level.code))
 }
 
 // Appends a word, and the kind of the elements of the innermost array.
 fn describe_elements(line: &mut Line, word: &str, levels: &[Level]) -> Result<(), Fault> {
     line.space()?;
-    line.paint(Part::Kind)?;
+    line.paint(Part::PrimitiveType)?;
     line.text.push_str(word)?;
     if let Some((kind, _)) = element_kind(levels) {
         line.text.push_str(" of ")?;
@@ -123,7 +123,7 @@ fn describe_elements(line: &mut Line, word: &str, levels: &[Level]) -> Result<()
 
 fn describe_repeated(line: &mut Line, count: u32, levels: &[Level]) -> Result<(), Fault> {
     if let Some((kind, code)) = element_kind(levels) {
-        line.word(Part::Kind, kind.name())?;
+        line.word(Part::PrimitiveType, kind.name())?;
         let text = match code {
             0x41 => "true",
             0x42 => "false",
@@ -137,13 +137,13 @@ fn describe_repeated(line: &mut Line, count: u32, levels: &[Level]) -> Result<()
     Ok(())
 }
 
-fn describe_value(line: &mut Line, kind: Kind, value: &Value) -> Result<(), Fault> {
-    if kind != Kind::Null {
-        line.word(Part::Kind, kind.name())?;
+fn describe_value(line: &mut Line, kind: PrimitiveType, value: &Value) -> Result<(), Fault> {
+    if kind != PrimitiveType::Null {
+        line.word(Part::PrimitiveType, kind.name())?;
     }
     line.space()?;
     line.paint(Part::Text)?;
-    push_value(&mut line.text, &mut line.shown, value)?;
+    push_value(&mut line.text, &mut line.value_text, value)?;
     line.end()?;
     match value {
         Value::Binary(bytes) => push_printable(line, bytes.as_inner())?,

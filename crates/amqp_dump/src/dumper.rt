@@ -7,7 +7,7 @@ use crate::level::{Level, LevelKind};
 use crate::line::Line;
 use crate::marks::Marks;
 use crate::masks::Masks;
-use crate::options::{Form, Options};
+use crate::options::{OutputFormat, Options};
 use crate::scanner::Scanner;
 use crate::select::Selector;
 use crate::source::Taking;
@@ -71,7 +71,7 @@ pub fn run<S: Taking, W: Write>(
     selector: Option<&Selector>,
 ) -> Result<Report, Fault> {
     let piece = match options.form {
-        Form::Tree => options.most_bytes,
+        OutputFormat::Tree => options.most_bytes,
         _ => 4096,
     };
     let mut dumper = Dumper {
@@ -142,12 +142,12 @@ impl Dumper {
         match self.scanner.next(source) {
             Ok(item) if item.kind == ItemKind::End => Ok(false),
             Ok(item) => {
-                self.show(item, source.taken(), selector)?;
+                self.show(item, source.item_bytes(), selector)?;
                 Ok(true)
             }
             Err(fault) => {
                 let found = self.found(source, fault)?;
-                self.show_fault(&found, source.taken())?;
+                self.show_fault(&found, source.item_bytes())?;
                 Ok(self.go_on(found))
             }
         }
@@ -157,7 +157,7 @@ impl Dumper {
     fn show(&mut self, item: Item, bytes: &[u8], selector: Option<&Selector>) -> Result<(), Fault> {
         let levels = self.scanner.levels();
         self.report.summary.add(item, levels, bytes.len());
-        if self.options.form == Form::Tree {
+        if self.options.form == OutputFormat::Tree {
             self.marks.add(item, levels, bytes)?;
         }
         if !self.is_selected(item, selector)? {
@@ -165,10 +165,10 @@ impl Dumper {
         }
         let levels = self.scanner.levels();
         let in_payload = self.scanner.is_in_payload();
-        let is_text_of_frame = self.options.form == Form::Text && is_in_frame(levels);
+        let is_text_of_frame = self.options.form == OutputFormat::Text && is_in_frame(levels);
         let base = self.selected.unwrap_or(usize::from(is_text_of_frame));
         match self.options.form {
-            Form::Tree => push_line(
+            OutputFormat::Tree => push_line(
                 self.alloc,
                 &mut self.line,
                 item,
@@ -177,7 +177,7 @@ impl Dumper {
                 self.marks.found(),
                 &self.options,
             )?,
-            Form::Text => push_text(
+            OutputFormat::Text => push_text(
                 self.alloc,
                 &mut self.line,
                 item,
@@ -186,10 +186,10 @@ impl Dumper {
                 bytes,
                 in_payload,
             )?,
-            Form::Json if self.is_muted => {
+            OutputFormat::Json if self.is_muted => {
                 self.is_muted = item.kind != ItemKind::Closes(LevelKind::Frame);
             }
-            Form::Json => {
+            OutputFormat::Json => {
                 let text = &mut self.line.text;
                 self.json.add(text, item, base, levels, bytes, in_payload)?;
             }
@@ -234,7 +234,7 @@ impl Dumper {
         }
         let at = self.scanner.fault_at(source, fault);
         let inside = at.saturating_sub(self.scanner.start) as usize;
-        let byte = match source.taken().get(inside).copied() {
+        let byte = match source.item_bytes().get(inside).copied() {
             Some(byte) => Some(byte),
             None => source.peek()?,
         };
@@ -246,7 +246,7 @@ impl Dumper {
     fn show_fault(&mut self, found: &Found, bytes: &[u8]) -> Result<(), Fault> {
         self.report.summary.add_fault(bytes.len());
         match self.options.form {
-            Form::Tree => {
+            OutputFormat::Tree => {
                 let depth = self.scanner.levels().len();
                 let start = self.scanner.start;
                 push_fault(
@@ -259,8 +259,8 @@ impl Dumper {
                     &self.options,
                 )
             }
-            Form::Text => self.line.push("\n"),
-            Form::Json => {
+            OutputFormat::Text => self.line.push("\n"),
+            OutputFormat::Json => {
                 self.json.clear();
                 self.is_muted = true;
                 push_json_fault(&mut self.line.text, found)

@@ -10,10 +10,10 @@ use crate::scanner::{MAX_DEPTH, Scanner};
 use crate::source::Taking;
 
 // The most elements without bytes of an array that are items of their own.
-const SHOWN: u32 = 7;
+const MAX_SHOWN: u32 = 7;
 
 // The most elements without bytes that are items of their own, beside one for each byte.
-const FIRST_SHOWN: u64 = 4096;
+const ALWAYS_SHOWN: u64 = 4096;
 
 const EMPTY_LIST: u8 = 0x45;
 
@@ -58,7 +58,7 @@ fn shown_with(shown: u64, count: u32, at: u64) -> Option<u64>
     ensures bound { IfSome result (λ all. all ≤ at + 4096) }
 {
     let all = shown.checked_add(u64::from(count))?;
-    if count > SHOWN || all > at.saturating_add(FIRST_SHOWN) {
+    if count > MAX_SHOWN || all > at.saturating_add(ALWAYS_SHOWN) {
         return None;
     }
     Some(all)

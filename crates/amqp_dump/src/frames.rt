@@ -4,7 +4,7 @@ ghost use Rattle.amqp_dump.specs.Kept.{Stays};
 
 use crate::fault::Fault;
 use crate::item::ItemKind;
-use crate::kinds::Kind;
+use crate::kinds::PrimitiveType;
 use crate::level::{Level, LevelKind};
 use crate::names;
 use crate::scanner::Scanner;
@@ -21,8 +21,8 @@ impl Scanner {
         ensures kept { Stays (S.held source.old) (S.left source.old) (S.held source.new)
             (S.left source.new) }
     {
-        take_bytes(source, 8usize.saturating_sub(source.taken().len()))?;
-        let Some(header) = source.taken().first_chunk::<8>().copied() else {
+        take_bytes(source, 8usize.saturating_sub(source.item_bytes().len()))?;
+        let Some(header) = source.item_bytes().first_chunk::<8>().copied() else {
             return Err(Fault::EndOfInput(8));
         };
         let [a, b, c, d, offset, kind, e, f] = header;
@@ -116,7 +116,7 @@ impl Scanner {
 
     // Remembers the descriptor of the innermost value, which was just taken, and returns its code.
     pub(crate) fn name_descriptor<S: Taking>(&mut self, source: &S) -> Option<u64> {
-        let code = descriptor_code(source.taken());
+        let code = descriptor_code(source.item_bytes());
         if let Some(level) = self.levels.last_mut() {
             level.descriptor = code;
         }
@@ -136,7 +136,7 @@ impl Scanner {
         let Some(level) = self.levels.last() else {
             return;
         };
-        let is_field = level.kind == LevelKind::Compound(Kind::List)
+        let is_field = level.kind == LevelKind::Compound(PrimitiveType::List)
             && level.descriptor == Some(TRANSFER)
             && level.index == 6;
         if is_field && self.levels.len() == 3 {

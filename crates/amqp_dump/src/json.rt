@@ -3,7 +3,7 @@
 use crate::describe::is_in_array;
 use crate::fault::{Fault, Found};
 use crate::item::{Item, ItemKind};
-use crate::kinds::{Kind, kind_of};
+use crate::kinds::{PrimitiveType, type_of_code};
 use crate::level::{Level, LevelKind};
 use crate::line::push_hex;
 use crate::names;
@@ -75,7 +75,7 @@ impl Json {
             Some(level) if level.kind == LevelKind::Described && level.index > 1 => ",\"value\":{",
             Some(level) if level.kind == LevelKind::Described => "{",
             Some(level) if is_map_value(level) => ",{",
-            Some(level) if level.kind == LevelKind::Compound(Kind::Map) => {
+            Some(level) if level.kind == LevelKind::Compound(PrimitiveType::Map) => {
                 self.separate()?;
                 "[{"
             }
@@ -147,8 +147,8 @@ impl Json {
         let (_, descriptor) = bytes.split_at(bytes.len().min(1));
         let value = value_of(self.alloc, descriptor, 0, false)?;
         let kind = match value {
-            Value::Symbol(_) => Kind::Symbol,
-            _ => Kind::Ulong,
+            Value::Symbol(_) => PrimitiveType::Symbol,
+            _ => PrimitiveType::Ulong,
         };
         add_scalar(self.alloc, text, kind, &value)?;
         text.push_str("}")?;
@@ -159,7 +159,7 @@ impl Json {
         Ok(())
     }
 
-    fn add_opening(&mut self, kind: Kind, levels: &[Level]) -> Result<(), Fault> {
+    fn add_opening(&mut self, kind: PrimitiveType, levels: &[Level]) -> Result<(), Fault> {
         self.comma = false;
         let text = &mut self.text;
         let name = kind.name();
@@ -171,7 +171,7 @@ impl Json {
             text.push_str(",\"descriptors\":[")?;
             return Ok(());
         }
-        if kind == Kind::Array {
+        if kind == PrimitiveType::Array {
             push_element_kind(text, levels)?;
         }
         text.push_str(",\"value\":[")?;
@@ -190,11 +190,11 @@ impl Json {
 
     fn add_repeated(&mut self, count: u32, levels: &[Level]) -> Result<(), Fault> {
         let code = levels.last().map(|level| level.code).unwrap_or(0);
-        let Some((kind, _)) = kind_of(code) else {
+        let Some((kind, _)) = type_of_code(code) else {
             return Ok(());
         };
         let text = &mut self.text;
-        if kind == Kind::List {
+        if kind == PrimitiveType::List {
             text.push_str("\"kind\":\"list\"")?;
         } else {
             let value = value_of(self.alloc, &[code], code, false)?;
@@ -217,14 +217,14 @@ impl Json {
 
 // Whether the level is a map at a value.
 fn is_map_value(level: &Level) -> bool {
-    level.kind == LevelKind::Compound(Kind::Map) && level.index % 2 == 0
+    level.kind == LevelKind::Compound(PrimitiveType::Map) && level.index % 2 == 0
 }
 
 fn push_element_kind(text: &mut String, levels: &[Level]) -> Result<(), Fault> {
     let Some(level) = levels.last() else {
         return Ok(());
     };
-    if let Some((kind, _)) = kind_of(level.code) {
+    if let Some((kind, _)) = type_of_code(level.code) {
         let name = kind.name();
         write!(text, ",\"of\":\"{name}\"")?;
     }
@@ -268,7 +268,7 @@ fn push_payload(text: &mut String, value: &Value, more: bool) -> Result<(), Faul
 }
 
 // Appends the members `kind` and `value` of a scalar, the bits of a float, and the text of a time.
-fn add_scalar(alloc: Global, text: &mut String, kind: Kind, value: &Value) -> Result<(), Fault> {
+fn add_scalar(alloc: Global, text: &mut String, kind: PrimitiveType, value: &Value) -> Result<(), Fault> {
     let name = kind.name();
     write!(text, "\"kind\":\"{name}\",\"value\":")?;
     match value {

@@ -16,7 +16,7 @@ pub(crate) enum Part {
     /// The name of a field or a descriptor.
     Name,
     /// The name of a kind.
-    Kind,
+    PrimitiveType,
     /// The text of a value.
     Text,
     /// A mark.
@@ -31,7 +31,7 @@ fn color_of(part: Part) -> &'static str {
         Part::Offset => "\x1b[2m",
         Part::Bytes => "\x1b[36m",
         Part::Name => "\x1b[1;34m",
-        Part::Kind => "\x1b[33m",
+        Part::PrimitiveType => "\x1b[33m",
         Part::Text => "\x1b[32m",
         Part::Mark => "\x1b[35m",
         Part::Fault => "\x1b[1;31m",
@@ -43,7 +43,7 @@ fn color_of(part: Part) -> &'static str {
 pub(crate) struct Line {
     pub(crate) text: String,
     // The text of a value, before it is escaped.
-    pub(crate) shown: String,
+    pub(crate) value_text: String,
     color: bool,
     // Whether the next word has no space before it.
     is_first: bool,
@@ -54,7 +54,7 @@ impl Line {
     pub(crate) fn new(alloc: Global, color: bool) -> Line {
         Line {
             text: String::new(alloc),
-            shown: String::new(alloc),
+            value_text: String::new(alloc),
             color,
             is_first: true,
         }

@@ -2,7 +2,7 @@
 
 /// How values are shown.
 #[derive(Clone, Copy, Debug, PartialEq, Eq)]
-pub enum Form {
+pub enum OutputFormat {
     /// A line for each node.
     Tree,
     /// A line for each encoded value, as `Display` writes it.
@@ -15,7 +15,7 @@ pub enum Form {
 #[derive(Clone, Copy, Debug, PartialEq, Eq)]
 pub struct Options {
     /// How values are shown.
-    pub form: Form,
+    pub form: OutputFormat,
     /// Whether the input is protocol headers and frames.
     pub frames: bool,
     /// Whether colors are written.
@@ -34,7 +34,7 @@ impl Options {
     /// Returns the options of a tree with no colors.
     pub fn tree() -> Options {
         Options {
-            form: Form::Tree,
+            form: OutputFormat::Tree,
             frames: false,
             color: false,
             most_levels: 256,

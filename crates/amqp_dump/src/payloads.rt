@@ -4,7 +4,7 @@ ghost use Rattle.amqp_dump.specs.Kept.{Stays};
 
 use crate::fault::Fault;
 use crate::item::ItemKind;
-use crate::kinds::Kind;
+use crate::kinds::PrimitiveType;
 use crate::scanner::{Long, Scanner};
 use crate::source::{Taking, take_bytes};
 use crate::texts::{bad_payload, missing_bytes};
@@ -30,7 +30,7 @@ impl Scanner {
     pub(crate) fn take_sized<S: Taking>(
         &mut self,
         source: &mut S,
-        kind: Kind,
+        kind: PrimitiveType,
         code: u8,
         wide: bool,
     ) -> Result<ItemKind, Fault>
@@ -39,7 +39,7 @@ impl Scanner {
     {
         let size = self.take_number(source, wide)?;
         self.need(source, u64::from(size))?;
-        let from = source.taken().len();
+        let from = source.item_bytes().len();
         if size as usize <= self.piece {
             take_bytes(source, size as usize)?;
             self.check(source, kind, code, from)?;
@@ -73,7 +73,7 @@ impl Scanner {
         ensures kept { Stays (S.held source.old) (S.left source.old) (S.held source.new)
             (S.left source.new) }
     {
-        let from = source.taken().len();
+        let from = source.item_bytes().len();
         let len = if most < long.left as usize {
             most as u32
         } else {
@@ -82,7 +82,7 @@ impl Scanner {
         let mut left = long.left.saturating_sub(len);
         take_part(source, len, left)?;
         if long.kind.is_text() {
-            let missing = missing_bytes(source.taken()).min(left);
+            let missing = missing_bytes(source.item_bytes()).min(left);
             take_part(source, missing, left.saturating_sub(missing))?;
             left = left.saturating_sub(missing);
             self.check(source, long.kind, 0xa1, from)?;
@@ -102,11 +102,11 @@ impl Scanner {
     pub(crate) fn check<S: Taking>(
         &mut self,
         source: &S,
-        kind: Kind,
+        kind: PrimitiveType,
         code: u8,
         from: usize,
     ) -> Result<(), Fault> {
-        let (_, payload) = source.taken().split_at(from.min(source.taken().len()));
+        let (_, payload) = source.item_bytes().split_at(from.min(source.item_bytes().len()));
         match bad_payload(kind, code, payload) {
             None => Ok(()),
             Some(at) => {

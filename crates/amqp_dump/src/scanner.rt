@@ -5,7 +5,7 @@ ghost use Rattle.amqp_dump.specs.Kept.{Stays};
 
 use crate::fault::Fault;
 use crate::item::{Item, ItemKind};
-use crate::kinds::{Kind, Shape, kind_of};
+use crate::kinds::{PrimitiveType, Shape, type_of_code};
 use crate::level::{Level, LevelKind};
 use crate::source::{Taking, take_byte, take_bytes};
 use std::alloc::Global;
@@ -16,7 +16,7 @@ pub const MAX_DEPTH: usize = 256;
 // A binary or a text of which bytes are left.
 #[derive(Clone, Copy, Debug)]
 pub(crate) struct Long {
-    pub(crate) kind: Kind,
+    pub(crate) kind: PrimitiveType,
     pub(crate) left: u32,
 }
 
@@ -119,7 +119,7 @@ impl Scanner {
             LevelKind::Constructor if level.code == 0 => self.take_value(source),
             LevelKind::Constructor => self.take_constructor(source),
             _ if level.is_full() => self.close(source, level),
-            LevelKind::Compound(Kind::Array) => self.take_element(source, level),
+            LevelKind::Compound(PrimitiveType::Array) => self.take_element(source, level),
             _ => self.take_value(source),
         }
     }
@@ -228,20 +228,20 @@ impl Scanner {
         ensures kept { Stays (S.held source.old) (S.left source.old) (S.held source.new)
             (S.left source.new) }
     {
-        match kind_of(code) {
+        match type_of_code(code) {
             None => Err(Fault::FormatCode),
-            Some((Kind::List, Shape::Fixed(_))) => {
-                let level = self.compound(Kind::List, 0, source.at());
+            Some((PrimitiveType::List, Shape::Fixed(_))) => {
+                let level = self.compound(PrimitiveType::List, 0, source.at());
                 self.push(level)?;
-                Ok(ItemKind::Opens(Kind::List, 0, 0))
+                Ok(ItemKind::Opens(PrimitiveType::List, 0, 0))
             }
             Some((kind, Shape::Fixed(width))) => {
                 self.need(source, u64::from(width))?;
-                let from = source.taken().len();
+                let from = source.item_bytes().len();
                 take_bytes(source, usize::from(width))?;
                 self.check(source, kind, code, from)?;
-                if kind == Kind::Boolean {
-                    self.note_more(code == 0x41 || source.taken().ends_with(&[0x56, 1]));
+                if kind == PrimitiveType::Boolean {
+                    self.note_more(code == 0x41 || source.item_bytes().ends_with(&[0x56, 1]));
                 }
                 Ok(ItemKind::Scalar(kind, code))
             }
@@ -261,10 +261,10 @@ impl Scanner {
             return Ok(u32::from(take_byte(source)?));
         }
         self.need(source, 4)?;
-        let from = source.taken().len();
+        let from = source.item_bytes().len();
         take_bytes(source, 4)?;
         let mut number: u32 = 0;
-        for byte in source.taken().iter().skip(from) {
+        for byte in source.item_bytes().iter().skip(from) {
             number = number.wrapping_mul(256).wrapping_add(u32::from(*byte));
         }
         Ok(number)
@@ -272,7 +272,7 @@ impl Scanner {
 
     /// Returns the offset of the byte that the fault is about.
     pub fn fault_at<S: Taking>(&self, source: &S, fault: Fault) -> u64 {
-        let last = if source.taken().is_empty() {
+        let last = if source.item_bytes().is_empty() {
             source.at()
         } else {
             source.at().saturating_sub(1)

@@ -32,7 +32,7 @@ pub trait Taking {
         ensures kept { Keeps (left self.old) (left self.new) };
 
     /// Returns the bytes of the item.
-    fn taken(&self) -> &[u8]
+    fn item_bytes(&self) -> &[u8]
         ensures bytes { result.now ≡ held self.now };
 
     /// Returns the offset of the next byte. It stops at `u64::MAX`.
@@ -127,7 +127,7 @@ impl<R: Read> Taking for Source<R> {
         self.from = self.to;
     }
 
-    fn taken(&self) -> &[u8] {
+    fn item_bytes(&self) -> &[u8] {
         &self.bytes[self.from..self.to]
     }
 
@@ -192,7 +192,7 @@ pub fn take_byte<S: Taking>(source: &mut S) -> Result<u8, Fault>
     if source.take_some(1)? == 0 {
         return Err(Fault::EndOfInput(1));
     }
-    match source.taken().last() {
+    match source.item_bytes().last() {
         Some(byte) => Ok(*byte),
         None => Err(Fault::EndOfInput(1)),
     }

@@ -3,7 +3,7 @@
 use crate::describe::element_kind;
 use crate::fault::Fault;
 use crate::item::{Item, ItemKind};
-use crate::kinds::Kind;
+use crate::kinds::PrimitiveType;
 use crate::level::Level;
 use crate::names;
 use crate::scanner::MAX_DEPTH;
@@ -38,31 +38,31 @@ pub struct Summary {
     root: Option<u64>,
 }
 
-const KINDS: [Kind; 24] = [
-    Kind::Null,
-    Kind::Boolean,
-    Kind::Ubyte,
-    Kind::Ushort,
-    Kind::Uint,
-    Kind::Ulong,
-    Kind::Byte,
-    Kind::Short,
-    Kind::Int,
-    Kind::Long,
-    Kind::Float,
-    Kind::Double,
-    Kind::Decimal32,
-    Kind::Decimal64,
-    Kind::Decimal128,
-    Kind::Char,
-    Kind::Timestamp,
-    Kind::Uuid,
-    Kind::Binary,
-    Kind::String,
-    Kind::Symbol,
-    Kind::List,
-    Kind::Map,
-    Kind::Array,
+const PRIMITIVE_TYPES: [PrimitiveType; 24] = [
+    PrimitiveType::Null,
+    PrimitiveType::Boolean,
+    PrimitiveType::Ubyte,
+    PrimitiveType::Ushort,
+    PrimitiveType::Uint,
+    PrimitiveType::Ulong,
+    PrimitiveType::Byte,
+    PrimitiveType::Short,
+    PrimitiveType::Int,
+    PrimitiveType::Long,
+    PrimitiveType::Float,
+    PrimitiveType::Double,
+    PrimitiveType::Decimal32,
+    PrimitiveType::Decimal64,
+    PrimitiveType::Decimal128,
+    PrimitiveType::Char,
+    PrimitiveType::Timestamp,
+    PrimitiveType::Uuid,
+    PrimitiveType::Binary,
+    PrimitiveType::String,
+    PrimitiveType::Symbol,
+    PrimitiveType::List,
+    PrimitiveType::Map,
+    PrimitiveType::Array,
 ];
 
 impl Summary {
@@ -145,7 +145,7 @@ impl Summary {
             text,
             "summary: {bytes} bytes, {frames} frames, {faults} faults"
         )?;
-        for (count, kind) in self.kinds.iter().zip(KINDS.iter()) {
+        for (count, kind) in self.kinds.iter().zip(PRIMITIVE_TYPES.iter()) {
             push_count(&mut text, *count, kind.name())?;
         }
         self.push_types(&mut text)?;

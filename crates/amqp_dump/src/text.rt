@@ -3,7 +3,7 @@
 use crate::describe::{describe, is_in_array, push_descriptor};
 use crate::fault::Fault;
 use crate::item::{Item, ItemKind};
-use crate::kinds::Kind;
+use crate::kinds::PrimitiveType;
 use crate::level::{Level, LevelKind};
 use crate::line::Line;
 use crate::texts::{first_payload, piece_value, push_safe, push_value, value_of};
@@ -28,14 +28,14 @@ pub(crate) fn push_text(
     }
     match item.kind {
         ItemKind::Described(_) => push_descriptor(alloc, line, bytes)?,
-        ItemKind::Opens(Kind::Map, _, _) => line.push("{")?,
+        ItemKind::Opens(PrimitiveType::Map, _, _) => line.push("{")?,
         ItemKind::Opens(_, _, _) => line.push("[")?,
-        ItemKind::Closes(LevelKind::Compound(Kind::Map)) => line.push("}")?,
+        ItemKind::Closes(LevelKind::Compound(PrimitiveType::Map)) => line.push("}")?,
         ItemKind::Closes(LevelKind::Compound(_)) => line.push("]")?,
         ItemKind::Constructor => line.push(" -> ")?,
         ItemKind::Scalar(_, code) => {
             let value = value_of(alloc, bytes, code, is_in_array(levels))?;
-            push_value(&mut line.text, &mut line.shown, &value)?;
+            push_value(&mut line.text, &mut line.value_text, &value)?;
         }
         ItemKind::Long(kind, _) => {
             let value = first_payload(alloc, kind, levels, bytes)?;
@@ -65,7 +65,7 @@ fn separator(outer: &[Level]) -> &'static str {
     };
     match level.kind {
         LevelKind::Described if level.index > 1 => " -> ",
-        LevelKind::Compound(Kind::Map) if level.index % 2 == 0 => ": ",
+        LevelKind::Compound(PrimitiveType::Map) if level.index % 2 == 0 => ": ",
         LevelKind::Compound(_) if level.index > 1 => ", ",
         _ => "",
     }
@@ -75,19 +75,19 @@ fn separator(outer: &[Level]) -> &'static str {
 // is the last.
 fn push_piece(
     line: &mut Line,
-    kind: Kind,
+    kind: PrimitiveType,
     value: &Value,
     is_first: bool,
     is_last: bool,
 ) -> Result<(), Fault> {
     let (begin, end) = match kind {
-        Kind::String => ("\"", "\""),
-        Kind::Symbol => (":", ""),
+        PrimitiveType::String => ("\"", "\""),
+        PrimitiveType::Symbol => (":", ""),
         _ => ("0x[", "]"),
     };
-    line.shown.clear();
-    write!(line.shown, "{value}")?;
-    let mut part = line.shown.as_str();
+    line.value_text.clear();
+    write!(line.value_text, "{value}")?;
+    let mut part = line.value_text.as_str();
     if !is_first {
         part = part.strip_prefix(begin).unwrap_or(part);
     }

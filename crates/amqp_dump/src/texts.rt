@@ -2,14 +2,14 @@
 
 ghost use Rattle.std.specs.Prelude.{◌≡◌, ◌++◌, ◌∷◌, IfOk, OnOk, [], false, string_bytes, if◌then◌else◌};
 ghost use Rattle.std.specs.List.{flat_map};
-ghost use Rattle.amqp_decode.specs.Spells.{Spells};
+ghost use Rattle.amqp_decode.specs.Encodes.{Encodes};
 ghost use Rattle.amqp_value.specs.Text.{text_of as shown};
 ghost use Rattle.amqp_value.specs.TreeOf.{tree_of};
 ghost use Rattle.amqp_dump.specs.Safe.{is_command, safe, safe_char};
 
 use crate::describe::is_in_array;
 use crate::fault::{Fault, input_fault};
-use crate::kinds::Kind;
+use crate::kinds::PrimitiveType;
 use crate::level::Level;
 use amqp_decode::decode_value;
 use amqp_value::Value;
@@ -34,16 +34,16 @@ pub(crate) fn missing_bytes(text: &[u8]) -> u32 {
 }
 
 /// Returns the offset of the first byte of the payload that is wrong, if one is.
-pub(crate) fn bad_payload(kind: Kind, code: u8, payload: &[u8]) -> Option<usize> {
+pub(crate) fn bad_payload(kind: PrimitiveType, code: u8, payload: &[u8]) -> Option<usize> {
     match (kind, payload) {
-        (Kind::Boolean, [byte]) if code == 0x56 && *byte > 1 => Some(0),
-        (Kind::Char, [a, b, c, d]) => {
+        (PrimitiveType::Boolean, [byte]) if code == 0x56 && *byte > 1 => Some(0),
+        (PrimitiveType::Char, [a, b, c, d]) => {
             match char::from_u32(u32::from_be_bytes([*a, *b, *c, *d])) {
                 Some(_) => None,
                 None => Some(0),
             }
         }
-        (Kind::String | Kind::Symbol, text) => match str::from_utf8(text) {
+        (PrimitiveType::String | PrimitiveType::Symbol, text) => match str::from_utf8(text) {
             Ok(_) => None,
             Err(error) => Some(error.valid_up_to()),
         },
@@ -67,7 +67,7 @@ pub(crate) fn bad_payload(kind: Kind, code: u8, payload: &[u8]) -> Option<usize>
 /// `5207` is the uint 7, as is `07` in an array of elements with the code 52.
 pub fn value_of(alloc: Global, bytes: &[u8], code: u8, in_array: bool) -> Result<Value, Fault>
     ensures value { IfOk result (λ v.
-        Spells 256 (if in_array then code ∷ bytes.now else bytes.now) (tree_of v)) }
+        Encodes 256 (if in_array then code ∷ bytes.now else bytes.now) (tree_of v)) }
 {
     if !in_array {
         return decoded(alloc, bytes);
@@ -79,7 +79,7 @@ pub fn value_of(alloc: Global, bytes: &[u8], code: u8, in_array: bool) -> Result
 }
 
 fn decoded(alloc: Global, bytes: &[u8]) -> Result<Value, Fault>
-    ensures value { IfOk result (λ v. Spells 256 bytes.now (tree_of v)) }
+    ensures value { IfOk result (λ v. Encodes 256 bytes.now (tree_of v)) }
 {
     match decode_value(alloc, bytes) {
         Ok(value) => Ok(value),
@@ -90,7 +90,7 @@ fn decoded(alloc: Global, bytes: &[u8]) -> Result<Value, Fault>
 /// Returns the first bytes of a long payload, as a value of its kind.
 pub(crate) fn first_payload(
     alloc: Global,
-    kind: Kind,
+    kind: PrimitiveType,
     levels: &[Level],
     bytes: &[u8],
 ) -> Result<Value, Fault> {
@@ -105,10 +105,10 @@ pub(crate) fn first_payload(
 }
 
 /// Returns a part of a payload, as a value of its kind.
-pub(crate) fn piece_value(alloc: Global, kind: Kind, payload: &[u8]) -> Result<Value, Fault> {
+pub(crate) fn piece_value(alloc: Global, kind: PrimitiveType, payload: &[u8]) -> Result<Value, Fault> {
     let code = match kind {
-        Kind::String => 0xb1,
-        Kind::Symbol => 0xb3,
+        PrimitiveType::String => 0xb1,
+        PrimitiveType::Symbol => 0xb3,
         _ => 0xb0,
     };
     let Ok(len) = u32::try_from(payload.len()) else {

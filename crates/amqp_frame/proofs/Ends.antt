@@ -7,13 +7,13 @@ use Rattle.std.proofs.KnownBytes.{Consumes-trans}
 use Rattle.std.specs.Io.KnownBytes.{Consumes}
 use Rattle.amqp_frame.specs.Code.{is_primitive_code, category, size_width, body_len, payload_len}
 use Rattle.amqp_frame.specs.declared.code.Category.{Category}
-use Rattle.amqp_frame.specs.Frame.{IsFrame, IsIncomplete, IsMalformed, HasFrame, HasMalformed}
+use Rattle.amqp_frame.specs.EncodedValue.{IsEncodedValue, IsIncomplete, IsMalformed, HasEncodedValue, HasMalformed}
 use Rattle.amqp_frame.specs.Reader.{Takes, RunsOut}
-use Rattle.amqp_frame.specs.Taking.{TakesIncomplete, TakesMalformed, FrameRefuses, PassesLimit, ExceedsLimit, RefusesWithin, DecidedBy}
+use Rattle.amqp_frame.specs.Taking.{TakesIncomplete, TakesMalformed, RefusesEncodedValue, PassesLimit, ExceedsLimit, RefusesWithin, DecidedBy}
 use Rattle.amqp_data.specs.declared.error.Error.{Error}
 use Rattle.amqp_data.specs.declared.error.Error.TheVariants.{OutOfMemory, TooLong, InvalidValue, InvalidFormatCode, UnexpectedEof, Io, Message}
-use Rattle.amqp_frame.proofs.Prefixes.{frame-malformed, frame-incomplete, malformed-incomplete}
-use Rattle.amqp_frame.proofs.FirstFrame.{body_len-take}
+use Rattle.amqp_frame.proofs.Prefixes.{encoded-malformed, encoded-incomplete, malformed-incomplete}
+use Rattle.amqp_frame.proofs.FirstEncodedValue.{body_len-take}
 use Rattle.amqp_frame.proofs.Open.{Open, open-less, open-malformed, open-incomplete}
 use Rattle.amqp_frame.proofs.Taking.{FallsShort}
 
@@ -87,7 +87,7 @@ pub keeps-primitive : (taken after : List ℕ) (code n : ℕ) (bytes : List ℕ)
     → after ≡ (taken ++ code ∷ []) ++ bytes → Open after (n - 1)
 keeps-primitive taken after code n bytes o pos ok len e =
     let all : after ≡ taken ++ (code ∷ bytes) = e ∙ append_assoc taken (code ∷ []) bytes in
-    rw all (open-less taken (code ∷ bytes) n pos (IsFrame.primitive code bytes ok len) o)
+    rw all (open-less taken (code ∷ bytes) n pos (IsEncodedValue.primitive code bytes ok len) o)
 
 pub grown : (taken after more bytes : List ℕ) → after ≡ (taken ++ more) ++ bytes → length taken ≤ length after
 grown taken after more bytes e = omega
@@ -95,16 +95,16 @@ grown taken after more bytes e = omega
 
 -- each result excludes the cases of the other results
 pub decided : {T : Type 0} (r : Result T Error) (P : T → List ℕ) (old new : Option (List ℕ)) (f g : ℕ)
-    → IfOk r (λ v. IsFrame (P v) × Consumes old new (P v))
-    → IfErr r (FrameRefuses old new f g (TakesIncomplete old new) (TakesMalformed old new)) → IfSome old (λ s. DecidedBy s r)
+    → IfOk r (λ v. IsEncodedValue (P v) × Consumes old new (P v))
+    → IfErr r (RefusesEncodedValue old new f g (TakesIncomplete old new) (TakesMalformed old new)) → IfSome old (λ s. DecidedBy s r)
 decided r P None new f g ok err = tt
 decided (Ok v) P (Some s) None f g ok err = absurd ok.1
 decided (Ok v) P (Some s) (Some x) f g ok err =
-    let has : HasFrame s = (P v, x, ok.0, ok.1) in
+    let has : HasEncodedValue s = (P v, x, ok.0, ok.1) in
     inr (inr (
       (λ _. has, λ _. refl),
-      (λ e. cc, λ b. absurd (frame-malformed s has b)),
-      (λ e. cc, λ b. absurd (frame-incomplete s has b)),
+      (λ e. cc, λ b. absurd (encoded-malformed s has b)),
+      (λ e. cc, λ b. absurd (encoded-incomplete s has b)),
     ))
 decided (Err OutOfMemory) P (Some s) new f g ok err = inl refl
 decided (Err Io) P (Some s) new f g ok err = inr (inl refl)
@@ -115,20 +115,20 @@ decided (Err InvalidFormatCode) P (Some s) None f g ok err = absurd err.2
 decided (Err InvalidFormatCode) P (Some s) (Some x) f g ok err =
     let has : HasMalformed s = (err.0, x, err.1, err.2) in
     inr (inr (
-      (λ e. cc, λ h. absurd (frame-malformed s h has)),
+      (λ e. cc, λ h. absurd (encoded-malformed s h has)),
       (λ _. has, λ _. refl),
       (λ e. cc, λ b. absurd (malformed-incomplete s has b)),
     ))
 decided (Err UnexpectedEof) P (Some s) new f g ok err =
     inr (inr (
-      (λ e. cc, λ h. absurd (frame-incomplete s h err.0)),
+      (λ e. cc, λ h. absurd (encoded-incomplete s h err.0)),
       (λ e. cc, λ b. absurd (malformed-incomplete s b err.0)),
       (λ _. err.0, λ _. refl),
     ))
 
 -- no error loses a byte, with a limit or without
 pub kept : {T : Type 0} (r : Result T Error) (old new : Option (List ℕ)) (f g : ℕ)
-    → IfErr r (FrameRefuses old new f g (TakesIncomplete old new) (TakesMalformed old new)) → OnErr r (Takes old new)
+    → IfErr r (RefusesEncodedValue old new f g (TakesIncomplete old new) (TakesMalformed old new)) → OnErr r (Takes old new)
 kept (Ok v) old new f g err = tt
 kept (Err OutOfMemory) old new f g err = err
 kept (Err Io) old new f g err = err.0
@@ -151,7 +151,7 @@ kept-within limit (Message words) old new f g err = absurd err
 -- the greatest limit is never exceeded
 pub endless : {T : Type 0} (limit : ℕ) (e : Error) (old new : Option (List ℕ)) (f g : ℕ) → 2 ^ 64 - 1 ≤ limit
     → (IsErrOf {T = T} (Err e) TooLong → limit < 2 ^ 64 - 1) → RefusesWithin limit old new f g e
-    → FrameRefuses old new f g (TakesIncomplete old new) (TakesMalformed old new) e
+    → RefusesEncodedValue old new f g (TakesIncomplete old new) (TakesMalformed old new) e
 endless limit OutOfMemory old new f g max bound r = r
 endless limit TooLong old new f g max bound r = let less = bound refl in absurd (omega arith)
 endless limit InvalidValue old new f g max bound r = r

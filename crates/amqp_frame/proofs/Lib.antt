@@ -1,4 +1,4 @@
-pub mod FirstFrame
+pub mod FirstEncodedValue
 pub mod Prefixes
 pub mod Cuts
 pub mod Open

@@ -11,8 +11,8 @@ use Rattle.amqp_frame.specs.declared.code.Category.{Category}
 use Rattle.amqp_frame.specs.declared.code.Category.TheVariants.{Fixed}
 use Rattle.amqp_frame.specs.Code.{size_width, body_len, payload_len}
 use Rattle.amqp_frame.specs.Reader.{Failed, RunsOut}
-use Rattle.amqp_frame.specs.Taking.{FrameRefuses, LimitedRefuses, Moves, PassesLimit}
-use Rattle.amqp_frame.proofs.FirstFrame.{body_len-prefix}
+use Rattle.amqp_frame.specs.Taking.{RefusesEncodedValue, LimitedRefuses, Moves, PassesLimit}
+use Rattle.amqp_frame.proofs.FirstEncodedValue.{body_len-prefix}
 
 -- a failure in a later call is a failure of the sequence
 pub failed-later : (f g h : ℕ) → f ≤ g → g ≤ h → Failed g h → Failed f h
@@ -22,7 +22,7 @@ failed-later f g h fg gh (inr last) =
 
 -- an error of a later call is an error of the sequence, whose earlier calls consumed bytes
 pub refuses-later : (a b c : Option (List ℕ)) (f g h : ℕ) (taken : List ℕ) {E E' C C' : Type 0} → Consumes a b taken
-    → f ≤ g → g ≤ h → (E → E') → (C → C') → (e : Error) → FrameRefuses b c g h E C e → FrameRefuses a c f h E' C' e
+    → f ≤ g → g ≤ h → (E → E') → (C → C') → (e : Error) → RefusesEncodedValue b c g h E C e → RefusesEncodedValue a c f h E' C' e
 refuses-later a b c f g h taken t fg gh at_end at_code OutOfMemory (more, r) =
     (taken ++ more, Consumes-trans a b c taken more t r)
 refuses-later a b c f g h taken t fg gh at_end at_code TooLong r = r
@@ -35,7 +35,7 @@ refuses-later a b c f g h taken t fg gh at_end at_code (Message words) r = r
 
 -- the same for a sequence with a limit
 pub limited-after : (L : Type 0) (a b c : Option (List ℕ)) (f g h : ℕ) (taken : List ℕ) {E E' C C' : Type 0} → Consumes a b taken
-    → f ≤ g → g ≤ h → (E → E') → (C → C') → (e : Error) → FrameRefuses b c g h E C e → LimitedRefuses L a c f h E' C' e
+    → f ≤ g → g ≤ h → (E → E') → (C → C') → (e : Error) → RefusesEncodedValue b c g h E C e → LimitedRefuses L a c f h E' C' e
 limited-after L a b c f g h taken t fg gh at_end at_code OutOfMemory r =
     refuses-later a b c f g h taken t fg gh at_end at_code OutOfMemory r
 limited-after L a b c f g h taken t fg gh at_end at_code TooLong r = absurd r
@@ -62,7 +62,7 @@ limited-later L M a b c f g h taken t fg gh at_limit at_end at_code (Message wor
 
 pub limited-last : {T : Type 0} (r : Result T Error) (L : Type 0) (a b c : Option (List ℕ)) (f g h : ℕ)
     (taken : List ℕ) {E E' C C' : Type 0} → Consumes a b taken → f ≤ g → g ≤ h → (E → E') → (C → C')
-    → IfErr r (FrameRefuses b c g h E C) → IfErr r (LimitedRefuses L a c f h E' C')
+    → IfErr r (RefusesEncodedValue b c g h E C) → IfErr r (LimitedRefuses L a c f h E' C')
 limited-last (Ok x) L a b c f g h taken t fg gh at_end at_code r = tt
 limited-last (Err e) L a b c f g h taken t fg gh at_end at_code r =
     limited-after L a b c f g h taken t fg gh at_end at_code e r

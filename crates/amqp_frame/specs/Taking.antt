@@ -6,7 +6,7 @@ use Rattle.amqp_data.specs.declared.error.Error.{Error}
 use Rattle.amqp_data.specs.declared.error.Error.TheVariants.{OutOfMemory, TooLong, InvalidValue, InvalidFormatCode, UnexpectedEof, Io, Message}
 use Rattle.amqp_frame.specs.declared.code.Category.{Category}
 use Rattle.amqp_frame.specs.Code.{payload_len}
-use Rattle.amqp_frame.specs.Frame.{IsIncomplete, IsMalformed, HasFrame, HasMalformed}
+use Rattle.amqp_frame.specs.EncodedValue.{IsIncomplete, IsMalformed, HasEncodedValue, HasMalformed}
 use Rattle.amqp_frame.specs.Reader.{Takes, Failed}
 
 -- bytes that satisfy P were consumed from a reader and appended to a list
@@ -22,14 +22,14 @@ abbrev pub TakesMalformed : Option (List ℕ) → Option (List ℕ) → Type 0
 TakesMalformed old new = (prefix : List ℕ) × IsMalformed prefix × Consumes old new prefix
 
 -- the statement for each error: `at_end` for `UnexpectedEof`, `at_code` for `InvalidFormatCode`
-abbrev pub FrameRefuses : Option (List ℕ) → Option (List ℕ) → ℕ → ℕ → Type 0 → Type 0 → Error → Type 0
-FrameRefuses old new before after at_end at_code OutOfMemory = Takes old new
-FrameRefuses old new before after at_end at_code UnexpectedEof = at_end
-FrameRefuses old new before after at_end at_code InvalidFormatCode = at_code
-FrameRefuses old new before after at_end at_code Io = Takes old new × Failed before after
-FrameRefuses old new before after at_end at_code TooLong = ⊥
-FrameRefuses old new before after at_end at_code InvalidValue = ⊥
-FrameRefuses old new before after at_end at_code (Message words) = ⊥
+abbrev pub RefusesEncodedValue : Option (List ℕ) → Option (List ℕ) → ℕ → ℕ → Type 0 → Type 0 → Error → Type 0
+RefusesEncodedValue old new before after at_end at_code OutOfMemory = Takes old new
+RefusesEncodedValue old new before after at_end at_code UnexpectedEof = at_end
+RefusesEncodedValue old new before after at_end at_code InvalidFormatCode = at_code
+RefusesEncodedValue old new before after at_end at_code Io = Takes old new × Failed before after
+RefusesEncodedValue old new before after at_end at_code TooLong = ⊥
+RefusesEncodedValue old new before after at_end at_code InvalidValue = ⊥
+RefusesEncodedValue old new before after at_end at_code (Message words) = ⊥
 
 -- the payload of a code of this category, which ends at `held`, ends after `limit`; no byte after
 -- `limit` was consumed
@@ -46,7 +46,7 @@ ExceedsLimit limit old new =
 -- the statement for each error with a limit: `at_limit` for `TooLong`
 abbrev pub LimitedRefuses : Type 0 → Option (List ℕ) → Option (List ℕ) → ℕ → ℕ → Type 0 → Type 0 → Error → Type 0
 LimitedRefuses at_limit old new before after at_end at_code TooLong = at_limit
-LimitedRefuses at_limit old new before after at_end at_code e = FrameRefuses old new before after at_end at_code e
+LimitedRefuses at_limit old new before after at_end at_code e = RefusesEncodedValue old new before after at_end at_code e
 
 -- the statement for each error of reading an encoded value of at most `limit` bytes
 abbrev pub RefusesWithin : ℕ → Option (List ℕ) → Option (List ℕ) → ℕ → ℕ → Error → Type 0
@@ -56,5 +56,5 @@ RefusesWithin limit old new before after e =
 -- except for `OutOfMemory` and `Io`, the bytes that remained determine the result
 abbrev pub DecidedBy : {T : Type 0} → List ℕ → Result T Error → Type 0
 DecidedBy s r =
-    IsErrOf r OutOfMemory ⊎ (IsErrOf r Io ⊎ ((IsOk r ↔ HasFrame s)
+    IsErrOf r OutOfMemory ⊎ (IsErrOf r Io ⊎ ((IsOk r ↔ HasEncodedValue s)
     × (IsErrOf r InvalidFormatCode ↔ HasMalformed s) × (IsErrOf r UnexpectedEof ↔ IsIncomplete s)))

@@ -3,13 +3,13 @@
 ghost use Rattle.std.specs.Prelude.{◌≡◌, ◌<◌, ◌↔◌, ℕ, IsTrue, List, [], ◌++◌, length};
 ghost use Rattle.std.specs.List.{AllByRecursion, concat};
 ghost use Rattle.amqp_frame.specs.Cut.{IsCut};
-ghost use Rattle.amqp_frame.specs.Frame.{IsFrame, IsIncomplete, IsMalformed, HasFrame, HasMalformed, ExactlyOne};
-ghost use Rattle.amqp_frame.specs.Whole.{is_frame};
+ghost use Rattle.amqp_frame.specs.EncodedValue.{IsEncodedValue, IsIncomplete, IsMalformed, HasEncodedValue, HasMalformed, ExactlyOne};
+ghost use Rattle.amqp_frame.specs.Whole.{is_encoded_value};
 
 /// At most one prefix of a byte string is an encoded value, so no encoded value is a proper prefix
 /// of another.
-pub fn one_frame()
-    ensures { (a b x y : List ℕ) → IsFrame a → IsFrame b → a ++ x ≡ b ++ y → (a ≡ b) × (x ≡ y) }
+pub fn one_value_at_a_place()
+    ensures { (a b x y : List ℕ) → IsEncodedValue a → IsEncodedValue b → a ++ x ≡ b ++ y → (a ≡ b) × (x ≡ y) }
 {}
 
 /// At most one prefix of a byte string is malformed.
@@ -21,32 +21,32 @@ pub fn one_malformed()
 /// Exactly one of three cases holds for each byte string: a prefix is an encoded value, a prefix is
 /// malformed, or the string is incomplete.
 pub fn one_case()
-    ensures { (s : List ℕ) → ExactlyOne (HasFrame s) (HasMalformed s) (IsIncomplete s) }
+    ensures { (s : List ℕ) → ExactlyOne (HasEncodedValue s) (HasMalformed s) (IsIncomplete s) }
 {}
 
 /// An encoded value has at least one byte.
 pub fn some_byte()
-    ensures { (frame : List ℕ) → IsFrame frame → 0 < length frame }
+    ensures { (encoded : List ℕ) → IsEncodedValue encoded → 0 < length encoded }
 {}
 
-/// The test `is_frame` is true if and only if the bytes are one encoded value.
+/// The test `is_encoded_value` is true if and only if the bytes are one encoded value.
 pub fn one_test()
-    ensures { (bytes : List ℕ) → IsTrue (is_frame bytes) ↔ IsFrame bytes }
+    ensures { (bytes : List ℕ) → IsTrue (is_encoded_value bytes) ↔ IsEncodedValue bytes }
 {}
 
 /// Every byte string can be split into encoded values and a rest that does not begin with one.
 pub fn some_cut()
-    ensures { (s : List ℕ) → (frames : List (List ℕ)) × (rest : List ℕ) × IsCut s frames rest }
+    ensures { (s : List ℕ) → (encoded_values : List (List ℕ)) × (rest : List ℕ) × IsCut s encoded_values rest }
 {}
 
 /// This split is unique.
 pub fn one_cut()
-    ensures { (s rest last : List ℕ) (frames others : List (List ℕ)) →
-        IsCut s frames rest → IsCut s others last → (frames ≡ others) × (rest ≡ last) }
+    ensures { (s rest last : List ℕ) (encoded_values others : List (List ℕ)) →
+        IsCut s encoded_values rest → IsCut s others last → (encoded_values ≡ others) × (rest ≡ last) }
 {}
 
 /// A concatenation of encoded values is split into these values, with an empty rest.
 pub fn cut_back()
-    ensures { (frames : List (List ℕ)) → AllByRecursion IsFrame frames →
-        IsCut (concat frames) frames [] }
+    ensures { (encoded_values : List (List ℕ)) → AllByRecursion IsEncodedValue encoded_values →
+        IsCut (concat encoded_values) encoded_values [] }
 {}

@@ -2,11 +2,11 @@
 
 ghost use Rattle.std.specs.Prelude.{◌≡◌, ◌≤◌, IfOk, IfErr, OnErr, IfSome, IsOkUnless, MatchResult, length};
 ghost use Rattle.std.specs.Io.KnownBytes.{Consumes};
-ghost use Rattle.amqp_frame.specs.Frame.{IsFrame};
+ghost use Rattle.amqp_frame.specs.EncodedValue.{IsEncodedValue};
 ghost use Rattle.amqp_frame.specs.Reader.{Takes};
-ghost use Rattle.amqp_frame.specs.Taking.{TakesIncomplete, TakesMalformed, FrameRefuses, RefusesWithin, DecidedBy};
+ghost use Rattle.amqp_frame.specs.Taking.{TakesIncomplete, TakesMalformed, RefusesEncodedValue, RefusesWithin, DecidedBy};
 
-use crate::frame::is_frame;
+use crate::encoded_value::is_encoded_value;
 use crate::read::Read;
 use crate::take_value::take_value;
 use amqp_data::Error;
@@ -24,13 +24,13 @@ pub struct LazyValue {
 
 impl Model for LazyValue {
     ghost use Rattle.std.specs.Prelude.{ℕ, List};
-    ghost use Rattle.amqp_frame.specs.Frame.{IsFrame};
+    ghost use Rattle.amqp_frame.specs.EncodedValue.{IsEncodedValue};
 
     ghost Value = { List ℕ };
 
     ghost view = { λ value. value.bytes };
 
-    ghost invariant = { λ value. IsFrame value.bytes };
+    ghost invariant = { λ value. IsEncodedValue value.bytes };
 
     ghost inverse = { λ bytes. record { bytes = bytes } };
 }
@@ -76,11 +76,11 @@ impl LazyValue {
     /// From `500140`, reads `5001`, and `40` remains. From `00a1016145`, reads all five bytes.
     pub fn from_reader<R: Read>(alloc: Global, reader: &mut R) -> Result<LazyValue, Error>
         // What `Ok` contains, and the bytes that remain after success.
-        ensures frame { IfOk result (λ value.
-            IsFrame value × Consumes (R.left reader.old) (R.left reader.new) value) }
+        ensures encoded { IfOk result (λ value.
+            IsEncodedValue value × Consumes (R.left reader.old) (R.left reader.new) value) }
         // When each result is returned.
         ensures exact { IfSome (R.left reader.old) (λ s. DecidedBy s result) }
-        ensures refused { IfErr result (FrameRefuses (R.left reader.old) (R.left reader.new)
+        ensures refused { IfErr result (RefusesEncodedValue (R.left reader.old) (R.left reader.new)
             (R.failures reader.old) (R.failures reader.new)
             (TakesIncomplete (R.left reader.old) (R.left reader.new))
             (TakesMalformed (R.left reader.old) (R.left reader.new))) }
@@ -117,8 +117,8 @@ impl LazyValue {
         limit: usize,
     ) -> Result<LazyValue, Error>
         // What `Ok` contains, and the bytes that remain after success.
-        ensures frame { IfOk result (λ value.
-            IsFrame value × Consumes (R.left reader.old) (R.left reader.new) value) }
+        ensures encoded { IfOk result (λ value.
+            IsEncodedValue value × Consumes (R.left reader.old) (R.left reader.new) value) }
         ensures within { IfOk result (λ value. length value ≤ limit) }
         // When each error is returned.
         ensures refused { IfErr result (RefusesWithin limit (R.left reader.old) (R.left reader.new)
@@ -140,7 +140,7 @@ impl LazyValue {
     /// Allocates nothing.
     pub fn as_slice(&self) -> &[u8]
         ensures bytes { result.now ≡ self.now }
-        ensures frame { IsFrame self.now }
+        ensures encoded { IsEncodedValue self.now }
     {
         self.bytes.as_slice()
     }
@@ -152,7 +152,7 @@ impl LazyValue {
     /// Allocates nothing.
     pub fn as_bytes(&self) -> &Bytes
         ensures bytes { result.now ≡ self.now }
-        ensures frame { IsFrame self.now }
+        ensures encoded { IsEncodedValue self.now }
     {
         &self.bytes
     }
@@ -164,7 +164,7 @@ impl LazyValue {
     /// Allocates nothing.
     pub fn into_bytes(self) -> Bytes
         ensures bytes { result ≡ self }
-        ensures frame { IsFrame self }
+        ensures encoded { IsEncodedValue self }
     {
         self.bytes
     }
@@ -180,7 +180,7 @@ impl LazyValue {
     /// Allocates the copy from `alloc`.
     pub fn try_into_vec(self, alloc: Global) -> Result<Vec<u8>, Error>
         ensures bytes { IfOk result (λ copy. copy.items ≡ self) }
-        ensures frame { IsFrame self }
+        ensures encoded { IsEncodedValue self }
         ensures memory { IsOkUnless result Error.OutOfMemory }
     {
         Ok(Vec::from_slice(alloc, self.as_slice())?)
@@ -216,12 +216,12 @@ impl TryFrom<Bytes> for LazyValue {
     type Error = Error;
 
     ghost try_from_gives = { λ bytes result. MatchResult result
-        (λ value. (value ≡ bytes) × IsFrame bytes)
-        (λ e. (e ≡ InvalidValue) × ¬ IsFrame bytes) };
+        (λ value. (value ≡ bytes) × IsEncodedValue bytes)
+        (λ e. (e ≡ InvalidValue) × ¬ IsEncodedValue bytes) };
 
-    #[tactic(auto, using(crate::proofs::Whole::frame_passes, crate::proofs::Whole::passes_frame))]
+    #[tactic(auto, using(crate::proofs::Whole::encoded_value_passes, crate::proofs::Whole::passes_encoded_value))]
     fn try_from(bytes: Bytes) -> Result<LazyValue, Error> {
-        if !is_frame(bytes.as_slice()) {
+        if !is_encoded_value(bytes.as_slice()) {
             return Err(Error::InvalidValue);
         }
         Ok(LazyValue { bytes })

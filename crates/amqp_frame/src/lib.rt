@@ -7,14 +7,14 @@
 #![tactic(auto)]
 
 mod code;
-mod frame;
+mod encoded_value;
 pub mod laws;
 mod lazy;
 mod read;
 mod readers;
 mod take_value;
 
-pub use frame::{frame_len, is_frame};
+pub use encoded_value::{frame_len, is_encoded_value};
 pub use lazy::LazyValue;
 pub use read::Read;
 pub use readers::{IoReader, SliceReader};

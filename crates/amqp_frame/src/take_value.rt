@@ -3,9 +3,9 @@
 ghost use Rattle.std.specs.Prelude.{◌≡◌, ◌≤◌, ◌<◌, ◌-◌, ◌^◌, ◌+◌, [], ◌∷◌, ◌++◌, IfOk, OnOk, IfErr, IfSome, IsErrOf, IsOkUnless, Some, length};
 ghost use Rattle.std.specs.Io.KnownBytes.{Consumes};
 ghost use Rattle.amqp_frame.specs.Code.{category, payload_len};
-ghost use Rattle.amqp_frame.specs.Frame.{IsFrame};
+ghost use Rattle.amqp_frame.specs.EncodedValue.{IsEncodedValue};
 ghost use Rattle.amqp_frame.specs.Reader.{RunsOut};
-ghost use Rattle.amqp_frame.specs.Taking.{FrameRefuses, LimitedRefuses, Moves, PassesLimit, RefusesWithin};
+ghost use Rattle.amqp_frame.specs.Taking.{RefusesEncodedValue, LimitedRefuses, Moves, PassesLimit, RefusesWithin};
 
 use crate::code::{Category, body_len_of, category_of, is_primitive, size_width_of};
 use crate::read::Read;
@@ -40,34 +40,34 @@ const COPIED: usize = 24;
 /// remains.
 #[inline(always)]
 pub fn take_value<R: Read>(alloc: Global, reader: &mut R, limit: usize) -> Result<Bytes, Error>
-    ensures frame { IfOk result (λ bytes.
-        IsFrame bytes × Consumes (R.left reader.old) (R.left reader.new) bytes) }
+    ensures encoded { IfOk result (λ bytes.
+        IsEncodedValue bytes × Consumes (R.left reader.old) (R.left reader.new) bytes) }
     ensures within { IfOk result (λ bytes. length bytes ≤ limit) }
     ensures refused { IfErr result (RefusesWithin limit (R.left reader.old) (R.left reader.new)
         (R.failures reader.old) (R.failures reader.new)) }
     ensures bound { IsErrOf result Error.TooLong → limit < 2 ^ 64 - 1 }
     ensures count { R.failures reader.old ≤ R.failures reader.new }
 {
-    let mut taken = Vec::new(alloc);
+    let mut collected = Vec::new(alloc);
     let mut open: u64 = 1;
     while open > 0 {
         // With the limit `usize::MAX`, comparisons in this form are left out.
-        if taken.len() + 1 > limit {
+        if collected.len() + 1 > limit {
             return Err(Error::TooLong);
         }
         let code = next_code(reader)?;
         if code == 0 {
-            push_zero(&mut taken)?;
+            push_zero(&mut collected)?;
             open += 1;
         } else {
             if !is_primitive(code) {
                 return Err(Error::InvalidFormatCode);
             }
-            take_primitive(reader, &mut taken, code, limit)?;
+            take_primitive(reader, &mut collected, code, limit)?;
             open -= 1;
         }
     }
-    let bytes = Bytes::from_vec(taken)?;
+    let bytes = Bytes::from_vec(collected)?;
     Ok(bytes)
 }
 
@@ -75,7 +75,7 @@ pub fn take_value<R: Read>(alloc: Global, reader: &mut R, limit: usize) -> Resul
 fn next_code<R: Read>(reader: &mut R) -> Result<u8, Error>
     ensures ok { IfOk result (λ byte.
         Consumes (R.left reader.old) (R.left reader.new) (byte ∷ [])) }
-    ensures refused { IfErr result (FrameRefuses (R.left reader.old) (R.left reader.new)
+    ensures refused { IfErr result (RefusesEncodedValue (R.left reader.old) (R.left reader.new)
         (R.failures reader.old) (R.failures reader.new)
         (RunsOut (R.left reader.old) (R.left reader.new) 1) ⊥) }
     ensures count { R.failures reader.old ≤ R.failures reader.new }
@@ -87,30 +87,30 @@ fn next_code<R: Read>(reader: &mut R) -> Result<u8, Error>
 }
 
 // Appends the code 00.
-fn push_zero(taken: &mut Vec<u8>) -> Result<(), Error>
-    ensures ok { OnOk result (taken.new.items ≡ taken.old.items ++ 0 ∷ []) }
+fn push_zero(collected: &mut Vec<u8>) -> Result<(), Error>
+    ensures ok { OnOk result (collected.new.items ≡ collected.old.items ++ 0 ∷ []) }
     ensures memory { IsOkUnless result Error.OutOfMemory }
 {
-    taken.push(0)?;
+    collected.push(0)?;
     Ok(())
 }
 
-// Reads the payload of this code and appends the code and the payload to `taken`, which then has at
+// Reads the payload of this code and appends the code and the payload to `collected`, which then has at
 // most `limit` bytes.
 #[inline(always)]
 fn take_primitive<R: Read>(
     reader: &mut R,
-    taken: &mut Vec<u8>,
+    collected: &mut Vec<u8>,
     code: u8,
     limit: usize,
 ) -> Result<(), Error>
-    requires { length taken.now.items < limit }
+    requires { length collected.now.items < limit }
     ensures ok { OnOk result (Moves (R.left reader.old) (R.left reader.new)
-        (taken.old.items ++ code ∷ []) taken.new.items
+        (collected.old.items ++ code ∷ []) collected.new.items
         (λ bytes. length bytes ≡ payload_len (category code) bytes)) }
-    ensures within { OnOk result (length taken.new.items ≤ limit) }
+    ensures within { OnOk result (length collected.new.items ≤ limit) }
     ensures refused { IfErr result (LimitedRefuses
-        (PassesLimit limit (length taken.old.items + 1) (category code)
+        (PassesLimit limit (length collected.old.items + 1) (category code)
         (R.left reader.old) (R.left reader.new))
         (R.left reader.old) (R.left reader.new)
         (R.failures reader.old) (R.failures reader.new)
@@ -121,11 +121,11 @@ fn take_primitive<R: Read>(
 {
     let category = category_of(code);
     if let Category::Fixed(0) = category {
-        return push_code(taken, code);
+        return push_code(collected, code);
     }
     let mut size = [0; 4];
     let size = &mut size[..size_width_of(category)];
-    let start = taken.len() + 1 + size.len();
+    let start = collected.len() + 1 + size.len();
     if start > limit {
         return Err(Error::TooLong);
     }
@@ -134,14 +134,14 @@ fn take_primitive<R: Read>(
     if start + body as usize > limit {
         return Err(Error::TooLong);
     }
-    push_header(taken, code, size, body)?;
-    take_bytes(reader, taken, body)
+    push_header(collected, code, size, body)?;
+    take_bytes(reader, collected, body)
 }
 
 // Reads the size at the start of a payload.
 fn read_size<R: Read>(reader: &mut R, size: &mut [u8]) -> Result<(), Error>
     ensures ok { OnOk result (Consumes (R.left reader.old) (R.left reader.new) size.new) }
-    ensures refused { IfErr result (FrameRefuses (R.left reader.old) (R.left reader.new)
+    ensures refused { IfErr result (RefusesEncodedValue (R.left reader.old) (R.left reader.new)
         (R.failures reader.old) (R.failures reader.new)
         (RunsOut (R.left reader.old) (R.left reader.new) (length size.old)) ⊥) }
     ensures count { R.failures reader.old ≤ R.failures reader.new }
@@ -153,71 +153,71 @@ fn read_size<R: Read>(reader: &mut R, size: &mut [u8]) -> Result<(), Error>
 }
 
 // Appends a code and the size of its payload, with room for the first bytes of its body.
-fn push_header(taken: &mut Vec<u8>, code: u8, size: &[u8], body: u32) -> Result<(), Error>
+fn push_header(collected: &mut Vec<u8>, code: u8, size: &[u8], body: u32) -> Result<(), Error>
     requires { length size.now ≤ 4 }
     ensures ok { OnOk result
-        (taken.new.items ≡ (taken.old.items ++ code ∷ []) ++ size.now) }
+        (collected.new.items ≡ (collected.old.items ++ code ∷ []) ++ size.now) }
     ensures memory { IsOkUnless result Error.OutOfMemory }
 {
     let room = (body as usize).min(PIECE);
-    make_room(taken, 1 + size.len() + room)?;
-    push_code(taken, code)?;
-    push_size(taken, size)
+    reserve_bytes(collected, 1 + size.len() + room)?;
+    push_code(collected, code)?;
+    push_size(collected, size)
 }
 
 // Appends a code.
-fn push_code(taken: &mut Vec<u8>, code: u8) -> Result<(), Error>
-    ensures ok { OnOk result (taken.new.items ≡ taken.old.items ++ code ∷ []) }
+fn push_code(collected: &mut Vec<u8>, code: u8) -> Result<(), Error>
+    ensures ok { OnOk result (collected.new.items ≡ collected.old.items ++ code ∷ []) }
     ensures memory { IsOkUnless result Error.OutOfMemory }
 {
-    taken.push(code)?;
+    collected.push(code)?;
     Ok(())
 }
 
 // Appends the size of a payload, if it has one.
-fn push_size(taken: &mut Vec<u8>, size: &[u8]) -> Result<(), Error>
-    ensures ok { OnOk result (taken.new.items ≡ taken.old.items ++ size.now) }
+fn push_size(collected: &mut Vec<u8>, size: &[u8]) -> Result<(), Error>
+    ensures ok { OnOk result (collected.new.items ≡ collected.old.items ++ size.now) }
     ensures memory { IsOkUnless result Error.OutOfMemory }
 {
     if size.is_empty() {
         return Ok(());
     }
-    taken.extend_from_slice(size)?;
+    collected.extend_from_slice(size)?;
     Ok(())
 }
 
 // Makes room for `count` more bytes, and for no others in the first block. While few bytes are held,
 // a count of at least twice the capacity takes a new block of exact size, and a smaller one doubles
 // the block, so that many small values are not copied one by one.
-fn make_room(taken: &mut Vec<u8>, count: usize) -> Result<(), Error>
+fn reserve_bytes(collected: &mut Vec<u8>, count: usize) -> Result<(), Error>
     requires { count ≤ 4101 }
-    ensures items { taken.new.items ≡ taken.old.items }
+    ensures items { collected.new.items ≡ collected.old.items }
     ensures memory { IsOkUnless result Error.OutOfMemory }
 {
-    let len = taken.len();
-    if count <= taken.capacity() - len {
+    let len = collected.len();
+    if count <= collected.capacity() - len {
         return Ok(());
     }
     if len == 0 {
-        *taken = Vec::with_capacity(*taken.allocator(), count)?;
+        *collected = Vec::with_capacity(*collected.allocator(), count)?;
         return Ok(());
     }
-    if len > COPIED || count / 2 < taken.capacity() {
-        taken.reserve(count)?;
+    if len > COPIED || count / 2 < collected.capacity() {
+        collected.reserve(count)?;
         return Ok(());
     }
-    let mut block = Vec::with_capacity(*taken.allocator(), len + count)?;
-    block.extend_from_slice(taken)?;
-    *taken = block;
+    let mut block = Vec::with_capacity(*collected.allocator(), len + count)?;
+    block.extend_from_slice(collected)?;
+    *collected = block;
     Ok(())
 }
 
-// Reads `count` bytes, one piece at a time, and appends them to `taken`.
-fn take_bytes<R: Read>(reader: &mut R, taken: &mut Vec<u8>, count: u32) -> Result<(), Error>
+// Reads `count` bytes, one piece at a time, and appends them to `collected`.
+fn take_bytes<R: Read>(reader: &mut R, collected: &mut Vec<u8>, count: u32) -> Result<(), Error>
     ensures ok { OnOk result (Moves (R.left reader.old) (R.left reader.new)
-        taken.old.items taken.new.items
+        collected.old.items collected.new.items
         (λ bytes. length bytes ≡ count)) }
-    ensures refused { IfErr result (FrameRefuses (R.left reader.old) (R.left reader.new)
+    ensures refused { IfErr result (RefusesEncodedValue (R.left reader.old) (R.left reader.new)
         (R.failures reader.old) (R.failures reader.new)
         (RunsOut (R.left reader.old) (R.left reader.new) count) ⊥) }
     ensures count { R.failures reader.old ≤ R.failures reader.new }
@@ -225,25 +225,25 @@ fn take_bytes<R: Read>(reader: &mut R, taken: &mut Vec<u8>, count: u32) -> Resul
     let mut left = count as usize;
     while left > 0 {
         let len = left.min(PIECE);
-        take_piece(reader, taken, len)?;
+        take_piece(reader, collected, len)?;
         left -= len;
     }
     Ok(())
 }
 
-// Reads `len` bytes at once and appends them to `taken`.
-fn take_piece<R: Read>(reader: &mut R, taken: &mut Vec<u8>, len: usize) -> Result<(), Error>
+// Reads `len` bytes at once and appends them to `collected`.
+fn take_piece<R: Read>(reader: &mut R, collected: &mut Vec<u8>, len: usize) -> Result<(), Error>
     requires { len ≤ 4096 }
     ensures ok { OnOk result (Moves (R.left reader.old) (R.left reader.new)
-        taken.old.items taken.new.items
+        collected.old.items collected.new.items
         (λ bytes. length bytes ≡ len)) }
-    ensures refused { IfErr result (FrameRefuses (R.left reader.old) (R.left reader.new)
+    ensures refused { IfErr result (RefusesEncodedValue (R.left reader.old) (R.left reader.new)
         (R.failures reader.old) (R.failures reader.new)
         (RunsOut (R.left reader.old) (R.left reader.new) len) ⊥) }
     ensures count { R.failures reader.old ≤ R.failures reader.new }
 {
-    let at = taken.len();
-    taken.resize(at + len, 0)?;
-    reader.read_exact(&mut taken[at..])?;
+    let at = collected.len();
+    collected.resize(at + len, 0)?;
+    reader.read_exact(&mut collected[at..])?;
     Ok(())
 }

@@ -14,27 +14,27 @@ use Rattle.amqp_de.specs.Maps.{pair_image, IsPair}
 use Rattle.amqp_de.specs.Present.{distinct_names, has_name, short_list, short_map, present_fields, up_to_last}
 use Rattle.amqp_de.proofs.LeftOut.{not_and, or_false}
 use Rattle.amqp_from_value.proofs.KeyLemmas.{HaveDistinctImages}
-use Rattle.amqp_from_value.proofs.MapLemmas.{map_stands}
-use Rattle.amqp_from_value.proofs.HasImageLemmas.{list_stands}
+use Rattle.amqp_from_value.proofs.MapLemmas.{map_has_image}
+use Rattle.amqp_from_value.proofs.HasImageLemmas.{list_has_image}
 use Rattle.amqp_from_value.specs.HasImage.{HasImage, HaveImages, EntriesHaveImages, FieldsHaveImages}
 
-pub short_list_stands : (ps : List (Option Tree)) (fs : List (Bool × Tree)) → HaveImages ps (trees_of (up_to_last fs)) → HasImage (tree_of_parts kind.List ps) (short_list fs)
+pub short_list_has_image : (ps : List (Option Tree)) (fs : List (Bool × Tree)) → HaveImages ps (trees_of (up_to_last fs)) → HasImage (tree_of_parts kind.List ps) (short_list fs)
 unfolding short_list
-short_list_stands ps fs h = list_stands ps (trees_of (up_to_last fs)) h
+short_list_has_image ps fs h = list_has_image ps (trees_of (up_to_last fs)) h
 
-pub kept_stands : (b : Bool) (p : Option Tree) (ps : List (Option Tree)) (t : Tree) (ts : List Tree) → HasImage p t → HaveImages ps (trees_of ts) →
+pub kept_has_image : (b : Bool) (p : Option Tree) (ps : List (Option Tree)) (t : Tree) (ts : List Tree) → HasImage p t → HaveImages ps (trees_of ts) →
     HaveImages (if b then p ∷ ps else []) (trees_of (if b then t ∷ ts else []))
-kept_stands true p ps t ts h k = (h, k)
-kept_stands false p ps t ts h k = tt
+kept_has_image true p ps t ts h k = (h, k)
+kept_has_image false p ps t ts h k = tt
 
-pub none_stands : FieldsHaveImages [] [] []
+pub none_has_image : FieldsHaveImages [] [] []
 unfolding FieldsHaveImages
-none_stands = tt
+none_has_image = tt
 
-pub must_stands : (n : List ℕ) (p : Option Tree) (ps : List (Option Tree)) (t : Tree) (ns : List (List ℕ)) (fs : List (Bool × Tree)) →
+pub must_has_image : (n : List ℕ) (p : Option Tree) (ps : List (Option Tree)) (t : Tree) (ns : List (List ℕ)) (fs : List (Bool × Tree)) →
     HasImage p t → FieldsHaveImages ps ns fs → FieldsHaveImages (string_key n ∷ p ∷ ps) (n ∷ ns) ((true, t) ∷ fs)
 unfolding FieldsHaveImages
-must_stands n p ps t ns fs h k = (refl, h, k)
+must_has_image n p ps t ns fs h k = (refl, h, k)
 
 pub may_by : (b : Bool) (n : List ℕ) (p : Option Tree) (ps : List (Option Tree)) (t : Tree) (es : List (Tree × Tree)) →
     HasImage p t → EntriesHaveImages ps es →
@@ -42,10 +42,10 @@ pub may_by : (b : Bool) (n : List ℕ) (p : Option Tree) (ps : List (Option Tree
 may_by true n p ps t es h k = (refl, h, k)
 may_by false n p ps t es h k = k
 
-pub may_stands : (b : Bool) (n : List ℕ) (p : Option Tree) (ps : List (Option Tree)) (t : Tree) (ns : List (List ℕ)) (fs : List (Bool × Tree)) →
+pub may_has_image : (b : Bool) (n : List ℕ) (p : Option Tree) (ps : List (Option Tree)) (t : Tree) (ns : List (List ℕ)) (fs : List (Bool × Tree)) →
     HasImage p t → FieldsHaveImages ps ns fs → FieldsHaveImages (if b then string_key n ∷ p ∷ ps else ps) (n ∷ ns) ((b, t) ∷ fs)
 unfolding FieldsHaveImages
-may_stands b n p ps t ns fs h k = may_by b n p ps t (present_fields ns fs) h k
+may_has_image b n p ps t ns fs h k = may_by b n p ps t (present_fields ns fs) h k
 
 -- A part and its image.
 abbrev Beside : Type 0
@@ -57,8 +57,8 @@ part b = b.0
 abbrev seen : Beside → Tree
 seen b = b.1
 
-abbrev Stands : Beside → Type 0
-Stands b = HasImage b.0 b.1
+abbrev BesideHasImage : Beside → Type 0
+BesideHasImage b = HasImage b.0 b.1
 
 abbrev beside : List (Option Tree) → List (Tree × Tree) → List (Beside × Beside)
 beside (k ∷ v ∷ ps) (e ∷ es) = ((k, e.0), (v, e.1)) ∷ beside ps es
@@ -85,17 +85,17 @@ the_entries (k ∷ []) (e ∷ es) h = absurd h
 the_entries (k ∷ v ∷ ps) [] h = absurd h
 the_entries (k ∷ v ∷ ps) (e ∷ es) h = ap (λ qs. tree.pair e.0 e.1 qs) (the_entries ps es h.2)
 
-key_stands : (k : Option Tree) (t : Tree) (n : List ℕ) → k ≡ Some t → t ≡ scalar (string n) → HasImage k t
-key_stands k t n e f = rw (e, f) (refl, refl)
+key_has_image : (k : Option Tree) (t : Tree) (n : List ℕ) → k ≡ Some t → t ≡ scalar (string n) → HasImage k t
+key_has_image k t n e f = rw (e, f) (refl, refl)
 
-each_stands : (ps : List (Option Tree)) (es : List (Tree × Tree)) → EntriesHaveImages ps es → Names es →
-    AllByRecursion (IsPair Stands Stands) (beside ps es)
-each_stands [] [] h n = tt
-each_stands [] (e ∷ es) h n = absurd h
-each_stands (k ∷ []) [] h n = absurd h
-each_stands (k ∷ []) (e ∷ es) h n = absurd h
-each_stands (k ∷ v ∷ ps) [] h n = absurd h
-each_stands (k ∷ v ∷ ps) (e ∷ es) h n = ((key_stands k e.0 n.0.0 h.0 n.0.1, h.1), each_stands ps es h.2 n.1)
+each_has_image : (ps : List (Option Tree)) (es : List (Tree × Tree)) → EntriesHaveImages ps es → Names es →
+    AllByRecursion (IsPair BesideHasImage BesideHasImage) (beside ps es)
+each_has_image [] [] h n = tt
+each_has_image [] (e ∷ es) h n = absurd h
+each_has_image (k ∷ []) [] h n = absurd h
+each_has_image (k ∷ []) (e ∷ es) h n = absurd h
+each_has_image (k ∷ v ∷ ps) [] h n = absurd h
+each_has_image (k ∷ v ∷ ps) (e ∷ es) h n = ((key_has_image k e.0 n.0.0 h.0 n.0.1, h.1), each_has_image ps es h.2 n.1)
 
 others_far : (t : Tree) (ps : List (Option Tree)) (es : List (Tree × Tree)) → EntriesHaveImages ps es →
     AllByRecursion (λ l. ¬ (t ≡ l)) (keys_of es) → AllByRecursion (λ l. ¬ (t ≡ seen l)) (keys_of (beside ps es))
@@ -115,10 +115,10 @@ keys_differ (k ∷ []) (e ∷ es) h d = absurd h
 keys_differ (k ∷ v ∷ ps) [] h d = absurd h
 keys_differ (k ∷ v ∷ ps) (e ∷ es) h d = (others_far e.0 ps es h.2 d.0, keys_differ ps es h.2 d.1)
 
-entries_stand : (ps : List (Option Tree)) (es : List (Tree × Tree)) → EntriesHaveImages ps es → Names es → HaveDistinctImages (λ t. t) (keys_of es) →
+entries_has_image : (ps : List (Option Tree)) (es : List (Tree × Tree)) → EntriesHaveImages ps es → Names es → HaveDistinctImages (λ t. t) (keys_of es) →
     HasImage (tree_of_parts kind.Map ps) (tree.map (pairs_of es))
-entries_stand ps es h n d =
-    let s = map_stands part seen part seen Stands Stands (λ (b : Beside) k. k) (λ (b : Beside) k. k) (beside ps es) (each_stands ps es h n) (keys_differ ps es h d) in
+entries_has_image ps es h n d =
+    let s = map_has_image part seen part seen BesideHasImage BesideHasImage (λ (b : Beside) k. k) (λ (b : Beside) k. k) (beside ps es) (each_has_image ps es h n) (keys_differ ps es h d) in
     subst (λ (qs : List (Option Tree)). HasImage (tree_of_parts kind.Map qs) (tree.map (pairs_of es))) (the_parts ps es h)
     (subst (λ (es' : tree.Pairs). HasImage (tree_of_parts kind.Map (parts_of part part (beside ps es))) (tree.map es')) (the_entries ps es h) s)
 
@@ -127,10 +127,10 @@ named_by : (b : Bool) (n : List ℕ) (t : Tree) (es : List (Tree × Tree)) → N
 named_by true n t es h = ((n, refl), h)
 named_by false n t es h = h
 
-named : (ns : List (List ℕ)) (fs : List (Bool × Tree)) → Names (present_fields ns fs)
-named [] fs = tt
-named (n ∷ ns) [] = tt
-named (n ∷ ns) (f ∷ fs) = named_by f.0 n f.1 (present_fields ns fs) (named ns fs)
+keys_are_names : (ns : List (List ℕ)) (fs : List (Bool × Tree)) → Names (present_fields ns fs)
+keys_are_names [] fs = tt
+keys_are_names (n ∷ ns) [] = tt
+keys_are_names (n ∷ ns) (f ∷ fs) = named_by f.0 n f.1 (present_fields ns fs) (keys_are_names ns fs)
 
 other : (m n : List ℕ) → bytes_eq m n ≡ false → ¬ (scalar (string n) ≡ scalar (string m))
 other m n d e = let same : n ≡ m = cc in
@@ -161,7 +161,7 @@ apart (n ∷ ns) [] e = tt
 apart (n ∷ ns) (f ∷ fs) e = let both = not_and (has_name n ns) (distinct_names ns) e in
     apart_by n f.0 f.1 (present_fields ns fs) (far n ns fs both.0) (apart ns fs both.1)
 
-pub short_map_stands : (ps : List (Option Tree)) (ns : List (List ℕ)) (fs : List (Bool × Tree)) → distinct_names ns ≡ true → FieldsHaveImages ps ns fs →
+pub short_map_has_image : (ps : List (Option Tree)) (ns : List (List ℕ)) (fs : List (Bool × Tree)) → distinct_names ns ≡ true → FieldsHaveImages ps ns fs →
     HasImage (tree_of_parts kind.Map ps) (short_map ns fs)
 unfolding short_map FieldsHaveImages
-short_map_stands ps ns fs d h = entries_stand ps (present_fields ns fs) h (named ns fs) (apart ns fs d)
+short_map_has_image ps ns fs d h = entries_has_image ps (present_fields ns fs) h (keys_are_names ns fs) (apart ns fs d)

@@ -8,7 +8,7 @@ use Rattle.std.specs.declared.cmp.Ordering.{Ordering}
 use Rattle.std.specs.declared.cmp.Ordering.TheVariants.{Equal, Greater}
 use Rattle.amqp_ser.specs.Tree.{Tree, trees_of}
 use Rattle.amqp_value.specs.TreeOf.{pairs_of}
-use Rattle.amqp_de.specs.Maps.{pair_image, IsPair, SamePair, EachBefore, ForAllSame, AreDistinct, Ascend}
+use Rattle.amqp_de.specs.Maps.{pair_image, IsPair, SamePair, EachBefore, ForAllSame, AreDistinct, AreAscending}
 use Rattle.amqp_de.specs.Reads.{image_option, RestorableOption, SameOption}
 
 -- No two keys have the same image.
@@ -61,5 +61,5 @@ module _ {K V : Type 0} (g : K → Tree) (P : K → Type 0) (S : K → K → Typ
   distinct_differ eq laws = images_differ g P S told (λ x y. eq y x ≡ false) (λ x e. true≢false (sym (laws.refl x) ∙ e)) Q
 
   pub ascending_differ : (cmp : K → K → Ordering) → IsTotalOrder cmp → (es : List (K × V)) → AllByRecursion (IsPair P Q) es →
-      Ascend S cmp (keys_of es) → HaveDistinctImages g (keys_of es)
+      AreAscending S cmp (keys_of es) → HaveDistinctImages g (keys_of es)
   ascending_differ cmp laws = images_differ g P S told (λ x y. cmp y x ≡ Greater) (λ x. not_above_itself cmp laws x) Q

@@ -2,17 +2,17 @@
 use Rattle.std.proofs.Common.{◌≡◌, ◌≤◌, inl, inr, ℕ, suc, List, [], Option, Some, None, IfSome, length, sym, subst, arith}
 use Rattle.std.specs.Io.KnownBytes.{Consumes}
 use Rattle.amqp_data.specs.declared.error.Error.{Error}
-use Rattle.amqp_frame.specs.Frame.{IsFrame}
+use Rattle.amqp_frame.specs.EncodedValue.{IsEncodedValue}
 use Rattle.amqp_ser.specs.Tree.{Tree}
-use Rattle.amqp_decode.proofs.Whole.{one-tree, spelled}
+use Rattle.amqp_decode.proofs.Whole.{one-tree, encoded}
 use Rattle.amqp_decode.specs.Parsed.{parse}
-use Rattle.amqp_decode.specs.Spells.{Spells}
+use Rattle.amqp_decode.specs.Encodes.{Encodes}
 use Rattle.amqp_decode.specs.WithoutBytes.{elements_without_bytes}
 use Rattle.amqp_de.specs.Answers.{Refuses}
 use Rattle.amqp_from_value.specs.Entries.{entry_count}
 use Rattle.amqp_from_value.specs.Limited.{IsAllowed, ReadsAllowed, RefusesNextAllowed, levels}
 use Rattle.amqp_from_value.specs.declared.limited.Limits.{Limits}
-use Rattle.amqp_from_value.proofs.SpelledLemmas.{IsMemory}
+use Rattle.amqp_from_value.proofs.FromReaderLemmas.{IsMemory}
 
 -- bytes within the limits encode one tree
 pub allowed-tree : (l : Limits) (bs : List ℕ) (t u : Tree) → IsAllowed l bs t → IsAllowed l bs u → t ≡ u
@@ -26,9 +26,9 @@ unread-allowed R l bs e u a (inr n) = inr (λ x r. n x (subst (λ v. R v x) (all
 
 -- and not from a reader whose next encoded value has these bytes
 pub refused_next_allowed : {T : Type 0} (R : Tree → T → Type 0) (l : Limits) (old new : Option (List ℕ)) (before after : ℕ) (bs cs : List ℕ) (e : Error)
-    → IsFrame bs → Consumes old new bs → cs ≡ bs → Refuses IsMemory (ReadsAllowed R l cs) e → RefusesNextAllowed R l old new before after e
-refused_next_allowed R l old new before after bs cs e frame taken same refused =
-    inr (bs, frame, taken, subst (λ b. Refuses IsMemory (ReadsAllowed R l b) e) same refused)
+    → IsEncodedValue bs → Consumes old new bs → cs ≡ bs → Refuses IsMemory (ReadsAllowed R l cs) e → RefusesNextAllowed R l old new before after e
+refused_next_allowed R l old new before after bs cs e encoded taken same refused =
+    inr (bs, encoded, taken, subst (λ b. Refuses IsMemory (ReadsAllowed R l b) e) same refused)
 
 -- bytes that are read with as many levels as the limits permit are within the limits if they are
 -- short enough, with any number of entries
@@ -40,7 +40,7 @@ read-allowed R l bs d t x short deep any parsed none r =
       (
         short,
         subst (λ n. elements_without_bytes n bs ≤ l.elements) deep few,
-        subst (λ n. Spells n bs t) deep (spelled (suc d) bs t parsed),
+        subst (λ n. Encodes n bs t) deep (encoded (suc d) bs t parsed),
         subst (λ n. IfSome n (λ m. entry_count t ≤ m)) (sym any) tt,
       ),
       r,

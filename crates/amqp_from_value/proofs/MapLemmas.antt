@@ -86,22 +86,22 @@ module _ {K V : Type 0} (f : K → Option Tree) (g : K → Tree) (h : V → Opti
       ap (λ b. b || (has_lazy v || has_lazy_pairs ps)) m.0.1 ∙ ap (λ b. b || has_lazy_pairs ps) m.1.1 ∙ none_lazy ps es m.2
   none_lazy (pair k v ps) [] m = absurd m
 
-  as_map_stands : (o : Option Pairs) (es : List (K × V)) → MatchPairs o es → HaveDistinctImages g (keys_of es) →
+  as_map_has_image : (o : Option Pairs) (es : List (K × V)) → MatchPairs o es → HaveDistinctImages g (keys_of es) →
       HasImage (as_map o) (tree.map (pairs_of (map (pair_image g i) es)))
-  as_map_stands None es m d = absurd m
-  as_map_stands (Some ps) es m d = (ap tree.map (inserted ps es no_pairs m (free_at_first es) d), none_lazy ps es m)
+  as_map_has_image None es m d = absurd m
+  as_map_has_image (Some ps) es m d = (ap tree.map (inserted ps es no_pairs m (free_at_first es) d), none_lazy ps es m)
 
-  as_kind_stands : (o : Option Trees) (es : List (K × V)) → MatchTrees o es → HaveDistinctImages g (keys_of es) →
+  as_kind_has_image : (o : Option Trees) (es : List (K × V)) → MatchTrees o es → HaveDistinctImages g (keys_of es) →
       HasImage (as_kind kind.Map o) (tree.map (pairs_of (map (pair_image g i) es)))
-  as_kind_stands None es m d = absurd m
-  as_kind_stands (Some ts) es m d = as_map_stands (in_pairs ts) es m d
+  as_kind_has_image None es m d = absurd m
+  as_kind_has_image (Some ts) es m d = as_map_has_image (in_pairs ts) es m d
 
   module _ (P : K → Type 0) (Q : V → Type 0) (key : (x : K) → P x → HasImage (f x) (g x)) (value : (y : V) → Q y → HasImage (h y) (i y)) where
     all_match : (es : List (K × V)) → AllByRecursion (IsPair P Q) es → MatchTrees (all_trees (parts_of f h es)) es
     all_match [] r = tt
     all_match (e ∷ es) r = parts_match (f e.0) (h e.1) (all_trees (parts_of f h es)) e es (key e.0 r.0.0) (value e.1 r.0.1) (all_match es r.1)
 
-    pub map_stands : (es : List (K × V)) → AllByRecursion (IsPair P Q) es → HaveDistinctImages g (keys_of es) →
+    pub map_has_image : (es : List (K × V)) → AllByRecursion (IsPair P Q) es → HaveDistinctImages g (keys_of es) →
         HasImage (tree_of_parts kind.Map (parts_of f h es)) (tree.map (pairs_of (map (pair_image g i) es)))
     unfolding tree_of_parts
-    map_stands es r d = as_kind_stands (all_trees (parts_of f h es)) es (all_match es r) d
+    map_has_image es r d = as_kind_has_image (all_trees (parts_of f h es)) es (all_match es r) d

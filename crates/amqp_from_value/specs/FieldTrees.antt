@@ -4,11 +4,11 @@ use Rattle.amqp_ser.specs.Tree.{Tree}
 use Rattle.amqp_from_value.specs.HasImage.{HasImage}
 
 -- Each field is present in both or in neither, and its tree has the image.
-unfoldable pub FieldsStand : List (Bool × Option Tree) → List (Bool × Tree) → Type 0
-FieldsStand [] [] = Unit {0}
-FieldsStand (p ∷ ps) (f ∷ fs) = (p.0 ≡ f.0) × HasImage p.1 f.1 × FieldsStand ps fs
-FieldsStand [] (f ∷ fs) = ⊥
-FieldsStand (p ∷ ps) [] = ⊥
+unfoldable pub FieldTreesHaveImages : List (Bool × Option Tree) → List (Bool × Tree) → Type 0
+FieldTreesHaveImages [] [] = Unit {0}
+FieldTreesHaveImages (p ∷ ps) (f ∷ fs) = (p.0 ≡ f.0) × HasImage p.1 f.1 × FieldTreesHaveImages ps fs
+FieldTreesHaveImages [] (f ∷ fs) = ⊥
+FieldTreesHaveImages (p ∷ ps) [] = ⊥
 
 -- The trees of all fields, absent ones too, and the fields with names.
 abbrev pub all_field_trees : List (Bool × Option Tree) → List (Option Tree)

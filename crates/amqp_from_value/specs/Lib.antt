@@ -2,7 +2,7 @@
 pub mod HasImage
 pub mod FieldTrees
 pub mod ShapeTrees
-pub mod ReadsSpelled
+pub mod FromReader
 pub mod Entries
 pub mod Limited
 pub mod LocatedErrors

@@ -3,10 +3,10 @@ use Rattle.std.specs.Prelude.{◌≡◌, ◌≤◌, ◌⊎◌, ◌^◌, ◌-◌,
 use Rattle.std.specs.Io.KnownBytes.{Consumes}
 use Rattle.amqp_data.specs.declared.error.Error.{Error}
 use Rattle.amqp_data.specs.declared.error.Error.TheVariants.{OutOfMemory}
-use Rattle.amqp_frame.specs.Frame.{IsFrame}
+use Rattle.amqp_frame.specs.EncodedValue.{IsEncodedValue}
 use Rattle.amqp_frame.specs.Taking.{RefusesWithin}
 use Rattle.amqp_ser.specs.Tree.{Tree}
-use Rattle.amqp_decode.specs.Spells.{Spells}
+use Rattle.amqp_decode.specs.Encodes.{Encodes}
 use Rattle.amqp_decode.specs.WithoutBytes.{elements_without_bytes}
 use Rattle.amqp_de.specs.Answers.{Refuses}
 use Rattle.amqp_from_value.specs.Entries.{entry_count}
@@ -29,7 +29,7 @@ limits_for (Some limits) bytes = limits
 -- The bytes encode the tree, and are within the limits.
 abbrev pub IsAllowed : Limits → List ℕ → Tree → Type 0
 IsAllowed limits bytes t =
-    (length bytes ≤ limits.bytes) × (elements_without_bytes (levels limits) bytes ≤ limits.elements) × Spells (levels limits) bytes t
+    (length bytes ≤ limits.bytes) × (elements_without_bytes (levels limits) bytes ≤ limits.elements) × Encodes (levels limits) bytes t
     × IfSome limits.entries (λ n. entry_count t ≤ n)
 
 -- The bytes are within the limits, and encode a tree that is read as x.
@@ -39,7 +39,7 @@ ReadsAllowed R limits bytes x = (t : Tree) × IsAllowed limits bytes t × R t x
 -- One encoded value was consumed, and it is within the limits and read as x.
 abbrev pub ReadsNextAllowed : {T : Type 0} → (Tree → T → Type 0) → Limits → Option (List ℕ) → Option (List ℕ) → T → Type 0
 ReadsNextAllowed R limits old new x =
-    (bytes : List ℕ) × IsFrame bytes × Consumes old new bytes × ReadsAllowed R limits bytes x
+    (bytes : List ℕ) × IsEncodedValue bytes × Consumes old new bytes × ReadsAllowed R limits bytes x
 
 -- The error is that of a reader without an encoded value of at most the limit of bytes; or one
 -- encoded value was consumed, and the error is out of memory unless nothing is read from it within
@@ -47,5 +47,5 @@ ReadsNextAllowed R limits old new x =
 abbrev pub RefusesNextAllowed : {T : Type 0} → (Tree → T → Type 0) → Limits → Option (List ℕ) → Option (List ℕ) → ℕ → ℕ → Error → Type 0
 RefusesNextAllowed {T} R limits old new before after e =
     RefusesWithin limits.bytes old new before after e
-    ⊎ ((bytes : List ℕ) × IsFrame bytes × Consumes old new bytes
+    ⊎ ((bytes : List ℕ) × IsEncodedValue bytes × Consumes old new bytes
     × Refuses (λ f. f ≡ OutOfMemory) (λ (x : T). ReadsAllowed R limits bytes x) e)

@@ -70,7 +70,7 @@ impl RoundTripAlternatives for Never {
     fn law() {}
 }
 
-#[tactic(auto, using(crate::proofs::AlternativeLemmas::either_stands))]
+#[tactic(auto, using(crate::proofs::AlternativeLemmas::either_has_image))]
 impl<T: RoundTripComposite, R: RoundTripAlternatives> RoundTripAlternatives for Either<T, R> {
     ghost trees = { either T.tree R.trees };
 

@@ -6,7 +6,7 @@ ghost use Rattle.amqp_ser.specs.Tree.{Tree};
 ghost use Rattle.amqp_de.specs.Defaults.{RestorableDefaulted};
 ghost use Rattle.amqp_de.specs.Present.{required, optional};
 ghost use Rattle.amqp_de.specs.Reads.{Always, RestorableOption};
-ghost use Rattle.amqp_from_value.specs.FieldTrees.{FieldsStand};
+ghost use Rattle.amqp_from_value.specs.FieldTrees.{FieldTreesHaveImages};
 
 use crate::round_trips::RoundTrip;
 use amqp_de::{Defaulted, FieldValues, Optional, Required};
@@ -34,10 +34,10 @@ pub trait RoundTripFields {
 
     /// States that each field of restorable fields has a tree whose image is the declared image.
     fn law()
-        ensures { (x : Self.Values) → restorable x → FieldsStand (trees x) (images x) };
+        ensures { (x : Self.Values) → restorable x → FieldTreesHaveImages (trees x) (images x) };
 }
 
-#[tactic(auto, unfolding(crate::specs::FieldTrees::FieldsStand))]
+#[tactic(auto, unfolding(crate::specs::FieldTrees::FieldTreesHaveImages))]
 impl RoundTripFields for () {
     type Values = ();
 
@@ -50,7 +50,7 @@ impl RoundTripFields for () {
     fn law() {}
 }
 
-#[tactic(auto, unfolding(crate::specs::FieldTrees::FieldsStand))]
+#[tactic(auto, unfolding(crate::specs::FieldTrees::FieldTreesHaveImages))]
 impl<V: RoundTrip, R: RoundTripFields> RoundTripFields for Required<V, R> {
     type Values = FieldValues<V, R::Values>;
 
@@ -66,7 +66,7 @@ impl<V: RoundTrip, R: RoundTripFields> RoundTripFields for Required<V, R> {
     }
 }
 
-#[tactic(auto, unfolding(crate::specs::FieldTrees::FieldsStand))]
+#[tactic(auto, unfolding(crate::specs::FieldTrees::FieldTreesHaveImages))]
 impl<V: RoundTrip, R: RoundTripFields> RoundTripFields for Optional<V, R> {
     type Values = FieldValues<Option<V>, R::Values>;
 
@@ -82,7 +82,7 @@ impl<V: RoundTrip, R: RoundTripFields> RoundTripFields for Optional<V, R> {
     }
 }
 
-#[tactic(auto, unfolding(crate::specs::FieldTrees::FieldsStand))]
+#[tactic(auto, unfolding(crate::specs::FieldTrees::FieldTreesHaveImages))]
 impl<V: RoundTrip, const D: u64, R: RoundTripFields> RoundTripFields for Defaulted<V, D, R> {
     type Values = FieldValues<V, R::Values>;
 

@@ -6,7 +6,7 @@ use amqp_data::{Array, Described, Multiple, TransparentVec};
 use amqp_value::Value;
 use amqp_value::laws::sound_values_are_their_own_images;
 
-#[tactic(auto, using(crate::proofs::HasImageLemmas::optional_stand))]
+#[tactic(auto, using(crate::proofs::HasImageLemmas::optional_has_image))]
 impl<T: RoundTrip> RoundTrip for Option<T> {
     fn law() {
         T::law();
@@ -19,7 +19,7 @@ impl<T: RoundTrip> RoundTrip for Box<T> {
     }
 }
 
-#[tactic(auto, using(crate::proofs::HasImageLemmas::items_stand))]
+#[tactic(auto, using(crate::proofs::HasImageLemmas::items_has_image))]
 impl<T: RoundTrip> RoundTrip for Vec<T> {
     fn law() {
         laws::lists_return();
@@ -27,7 +27,7 @@ impl<T: RoundTrip> RoundTrip for Vec<T> {
     }
 }
 
-#[tactic(auto, using(crate::proofs::HasImageLemmas::items_stand))]
+#[tactic(auto, using(crate::proofs::HasImageLemmas::items_has_image))]
 impl<T: RoundTrip, const N: usize> RoundTrip for [T; N] {
     fn law() {
         laws::lists_return();
@@ -35,7 +35,7 @@ impl<T: RoundTrip, const N: usize> RoundTrip for [T; N] {
     }
 }
 
-#[tactic(auto, using(crate::proofs::HasImageLemmas::items_stand))]
+#[tactic(auto, using(crate::proofs::HasImageLemmas::items_has_image))]
 impl<T: RoundTrip> RoundTrip for Array<T> {
     fn law() {
         laws::arrays_return();
@@ -43,7 +43,7 @@ impl<T: RoundTrip> RoundTrip for Array<T> {
     }
 }
 
-#[tactic(auto, using(crate::proofs::HasImageLemmas::items_stand))]
+#[tactic(auto, using(crate::proofs::HasImageLemmas::items_has_image))]
 impl<T: RoundTrip> RoundTrip for TransparentVec<T> {
     fn law() {
         laws::transparent_vectors_return();

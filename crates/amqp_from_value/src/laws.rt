@@ -12,11 +12,11 @@ ghost use Rattle.amqp_ser.specs.Named.{string_key};
 ghost use Rattle.amqp_ser.specs.Tree.{Descriptor, Tree, Trees, array, list, described, trees_of};
 ghost use Rattle.amqp_ser.specs.declared.kind.CompoundKind.TheVariants as kind;
 ghost use Rattle.amqp_ser.specs.declared.marker.Marker.TheVariants as marker;
-ghost use Rattle.amqp_decode.specs.Spells.{Spells};
+ghost use Rattle.amqp_decode.specs.Encodes.{Encodes};
 ghost use Rattle.amqp_value.specs.Image.{variant_map};
 ghost use Rattle.amqp_de.specs.Present.{distinct_names, short_list, short_map, up_to_last};
 ghost use Rattle.amqp_from_value.specs.HasImage.{HasImage, HaveImages, FieldsHaveImages};
-ghost use Rattle.amqp_from_value.specs.ReadsSpelled.{CanBeDecoded};
+ghost use Rattle.amqp_from_value.specs.FromReader.{CanBeDecoded};
 
 use crate::RoundTrip;
 
@@ -82,7 +82,7 @@ pub fn named_maps_return()
 /// writable, in range, at most 256 deep, and without lazy and transparent parts.
 pub fn bytes_have_the_image<T: RoundTrip>()
     ensures { (x : T) (t : Tree) → T.restorable x → T.tree x ≡ Some t → CanBeDecoded t →
-        Spells 256 (encoding t) (T.image x) }
+        Encodes 256 (encoding t) (T.image x) }
 {
     T::law();
     amqp_decode::laws::own_bytes();

@@ -5,11 +5,11 @@ ghost use Rattle.std.specs.Bool.{OnTrue};
 ghost use Rattle.amqp_data.specs.declared.error.Error.TheVariants.{OutOfMemory, TooLong};
 ghost use Rattle.amqp_ser.specs.Tree.{Tree};
 ghost use Rattle.amqp_value.specs.TreeOf.{tree_of};
-ghost use Rattle.amqp_decode.specs.Spells.{Spells};
+ghost use Rattle.amqp_decode.specs.Encodes.{Encodes};
 ghost use Rattle.amqp_decode.specs.WithoutBytes.{elements_without_bytes};
 ghost use Rattle.amqp_de.specs.Answers.{Answers};
-ghost use Rattle.amqp_de.specs.Results.{Reading};
-ghost use Rattle.amqp_de.specs.Spelled.{IsOfReading};
+ghost use Rattle.amqp_de.specs.Results.{ReadsAndRestores};
+ghost use Rattle.amqp_de.specs.FromBytes.{IsOfReading};
 ghost use Rattle.amqp_from_value.specs.Limited.{IsAllowed, ReadsAllowed, for_length, levels};
 ghost use Rattle.amqp_from_value.specs.Limited.{limits_for};
 
@@ -117,10 +117,10 @@ pub fn from_slice_limited<T: Deserialize>(
 ) -> Result<T, Error>
     ensures read { Answers (λ e. e ≡ OutOfMemory) (ReadsAllowed T.reads limits bytes.now) result }
     ensures within { IfErr result (λ e. ¬ (e ≡ OutOfMemory) → ¬ (e ≡ TooLong) →
-        (t : Tree) → Spells 256 bytes.now t → IsAllowed limits bytes.now t) }
+        (t : Tree) → Encodes 256 bytes.now t → IsAllowed limits bytes.now t) }
     ensures law { (x : T) → T.restorable x → IsAllowed limits bytes.now (T.image x) →
         MatchResult result (λ y. T.same y x) (λ e. e ≡ OutOfMemory) }
-    ensures kind { IfErr result (λ e. (t : Tree) → Spells 256 bytes.now t → IsOfReading e) }
+    ensures kind { IfErr result (λ e. (t : Tree) → Encodes 256 bytes.now t → IsOfReading e) }
 {
     if let Some(read) = read_in_one_pass::<T>(alloc, bytes, limits) {
         return Ok(read);
@@ -144,7 +144,7 @@ pub(crate) fn read_in_one_pass<T: Deserialize>(
     limits: Limits,
 ) -> Option<T>
     ensures { IfSome result (λ x. ReadsAllowed
-        (Reading T.reads T.image T.restorable T.same) limits bytes.now x) }
+        (ReadsAndRestores T.reads T.image T.restorable T.same) limits bytes.now x) }
 {
     let depth = limits.depth.min(256);
     if bytes.len() > limits.bytes || depth == 0 || limits.entries.is_some() {
@@ -162,7 +162,7 @@ pub(crate) fn decode_limited(alloc: Global, bytes: &[u8], limits: Limits) -> Res
     ensures err { IfErr result (λ e. ¬ (e ≡ OutOfMemory) →
         (t : Tree) → ¬ IsAllowed limits bytes.now t) }
     ensures none { IfErr result (λ e. ¬ (e ≡ OutOfMemory) → ¬ (e ≡ TooLong) →
-        (t : Tree) → ¬ Spells 256 bytes.now t) }
+        (t : Tree) → ¬ Encodes 256 bytes.now t) }
 {
     if bytes.len() > limits.bytes {
         return Err(Error::TooLong);
@@ -182,7 +182,7 @@ pub(crate) fn decode_limited(alloc: Global, bytes: &[u8], limits: Limits) -> Res
 // deeper one.
 fn deeper(alloc: Global, bytes: &[u8], elements: u32) -> Error
     ensures { ¬ (result ≡ OutOfMemory) → ¬ (result ≡ TooLong) →
-        (t : Tree) → ¬ Spells 256 bytes.now t }
+        (t : Tree) → ¬ Encodes 256 bytes.now t }
 {
     match decode_value_limited(alloc, bytes, elements) {
         Ok(_) => Error::TooLong,

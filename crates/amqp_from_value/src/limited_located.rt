@@ -5,7 +5,7 @@ ghost use Rattle.std.specs.Prelude.{◌≡◌, IfErr};
 ghost use Rattle.amqp_data.specs.declared.error.Error.TheVariants.{OutOfMemory, TooLong};
 ghost use Rattle.amqp_ser.specs.Tree.{Tree};
 ghost use Rattle.amqp_decode.specs.Located.{IsPlaced};
-ghost use Rattle.amqp_decode.specs.Spells.{Spells};
+ghost use Rattle.amqp_decode.specs.Encodes.{Encodes};
 ghost use Rattle.amqp_de.specs.Answers.{Answers};
 ghost use Rattle.amqp_from_value.specs.Limited.{ReadsAllowed, limits_for};
 ghost use Rattle.amqp_from_value.specs.LocatedErrors.{IsLocatedWithin, error_in};
@@ -74,7 +74,7 @@ fn read_located<T: Deserialize>(
 fn with_place(error: Error, bytes: &[u8]) -> Located
     ensures error { result.error ≡ error }
     ensures place { ¬ (error ≡ OutOfMemory) → ¬ (error ≡ TooLong) →
-        ((t : Tree) → ¬ Spells 256 bytes.now t) → IsPlaced result.place 256 bytes.now }
+        ((t : Tree) → ¬ Encodes 256 bytes.now t) → IsPlaced result.place 256 bytes.now }
 {
     let place = match error {
         Error::OutOfMemory => None,

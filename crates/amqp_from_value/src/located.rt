@@ -3,10 +3,10 @@
 
 ghost use Rattle.std.specs.Prelude.{◌≡◌, IfErr, MatchResult};
 ghost use Rattle.amqp_data.specs.declared.error.Error.TheVariants.{OutOfMemory};
-ghost use Rattle.amqp_decode.specs.Spells.{Spells};
+ghost use Rattle.amqp_decode.specs.Encodes.{Encodes};
 ghost use Rattle.amqp_de.specs.Answers.{Answers};
 ghost use Rattle.amqp_from_value.specs.LocatedErrors.{IsLocatedIn, error_in};
-ghost use Rattle.amqp_de.specs.Spelled.{ReadsSpelled};
+ghost use Rattle.amqp_de.specs.FromBytes.{ReadsEncoded};
 
 use amqp_data::Error;
 use amqp_de::{Deserialize, Fault, from_value_located, read_bytes};
@@ -81,8 +81,8 @@ impl error::Error for SliceError {}
 /// As a `u32`, `5246` is read, `46` is `invalid format code at byte 0`, and `5105` is
 /// `invalid value at byte 0: expected uint, found byte`.
 pub fn from_slice_located<T: Deserialize>(alloc: Global, bytes: &[u8]) -> Result<T, SliceError>
-    ensures read { Answers (λ e. error_in e ≡ OutOfMemory) (ReadsSpelled T.reads bytes.now) result }
-    ensures law { (x : T) → T.restorable x → Spells 256 bytes.now (T.image x) →
+    ensures read { Answers (λ e. error_in e ≡ OutOfMemory) (ReadsEncoded T.reads bytes.now) result }
+    ensures law { (x : T) → T.restorable x → Encodes 256 bytes.now (T.image x) →
         MatchResult result (λ y. T.same y x) (λ e. error_in e ≡ OutOfMemory) }
     ensures place { IfErr result (IsLocatedIn bytes.now) }
 {
@@ -95,8 +95,8 @@ pub fn from_slice_located<T: Deserialize>(alloc: Global, bytes: &[u8]) -> Result
 // Reads a `T` from the untyped value that the bytes encode.
 #[inline(never)]
 fn read_by_value_located<T: Deserialize>(alloc: Global, bytes: &[u8]) -> Result<T, SliceError>
-    ensures read { Answers (λ e. error_in e ≡ OutOfMemory) (ReadsSpelled T.reads bytes.now) result }
-    ensures law { (x : T) → T.restorable x → Spells 256 bytes.now (T.image x) →
+    ensures read { Answers (λ e. error_in e ≡ OutOfMemory) (ReadsEncoded T.reads bytes.now) result }
+    ensures law { (x : T) → T.restorable x → Encodes 256 bytes.now (T.image x) →
         MatchResult result (λ y. T.same y x) (λ e. error_in e ≡ OutOfMemory) }
     ensures place { IfErr result (IsLocatedIn bytes.now) }
 {

@@ -3,7 +3,7 @@
 ghost use Rattle.std.specs.Prelude.{◌≤◌, IfOk, IfErr, OnErr};
 ghost use Rattle.amqp_frame.specs.Reader.{Takes};
 ghost use Rattle.amqp_from_value.specs.Limited.{ReadsNextAllowed, RefusesNextAllowed};
-ghost use Rattle.amqp_from_value.specs.ReadsSpelled.{ReadsNext, RefusesNext};
+ghost use Rattle.amqp_from_value.specs.FromReader.{ReadsNext, RefusesNext};
 
 use crate::limited::{Limits, from_slice_limited};
 use amqp_data::Error;

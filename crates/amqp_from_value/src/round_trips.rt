@@ -3,7 +3,7 @@
 ghost use Rattle.std.specs.Prelude.{◌≡◌, MatchResult, IfSome};
 ghost use Rattle.amqp_data.specs.declared.error.Error.TheVariants.{OutOfMemory};
 ghost use Rattle.amqp_from_value.specs.HasImage.{HasImage};
-ghost use Rattle.amqp_from_value.specs.ReadsSpelled.{HasDecodable};
+ghost use Rattle.amqp_from_value.specs.FromReader.{HasDecodable};
 
 use crate::laws::bytes_have_the_image;
 use amqp_data::Error;

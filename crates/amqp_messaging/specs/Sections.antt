@@ -1,7 +1,7 @@
 -- The sections of a message, and their order (AMQP 1.0 part 3, section 3.2).
 use Rattle.std.specs.Prelude.{◌≡◌, ◌≤◌, ◌<◌, ◌⊎◌, ℕ, Bool, true, false, nat_eq, ◌||◌, List, [], ◌∷◌, ◌++◌, length, Option, Some, None, IfSome, codes}
 use Rattle.std.specs.List.{starts_with}
-use Rattle.amqp_frame.specs.Frame.{IsFrame, HasFrame}
+use Rattle.amqp_frame.specs.EncodedValue.{IsEncodedValue, HasEncodedValue}
 use Rattle.amqp_messaging.specs.declared.message.error.MessageError.{MessageError}
 use Rattle.amqp_messaging.specs.declared.message.error.MessageError.TheVariants as error
 use Rattle.amqp_messaging.specs.declared.message.kind.SectionKind.{SectionKind}
@@ -42,7 +42,7 @@ selects k s =
 
 -- The bytes are an encoded section of this kind.
 abbrev pub IsSection : SectionKind → List ℕ → Type 0
-IsSection k s = IsFrame s × (selects k s ≡ true)
+IsSection k s = IsEncodedValue s × (selects k s ≡ true)
 
 -- The place of a kind in a message. The three kinds of a body have one.
 abbrev pub place : SectionKind → ℕ
@@ -80,9 +80,9 @@ Misplaced e last k = ⊥
 
 -- Why the bytes do not begin with a section.
 abbrev pub RefusesFirst : List ℕ → MessageError → Type 0
-RefusesFirst s error.Malformed = ¬ HasFrame s
+RefusesFirst s error.Malformed = ¬ HasEncodedValue s
 RefusesFirst s error.UnknownSection =
-    (bytes rest : List ℕ) × IsFrame bytes × (s ≡ bytes ++ rest) × ((k : SectionKind) → selects k bytes ≡ false)
+    (bytes rest : List ℕ) × IsEncodedValue bytes × (s ≡ bytes ++ rest) × ((k : SectionKind) → selects k bytes ≡ false)
 RefusesFirst s e = ⊥
 
 -- Why the bytes do not begin with a section that can follow one of the last kind.

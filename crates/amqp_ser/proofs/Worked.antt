@@ -1,7 +1,7 @@
 -- Examples: trees and their bytes, computed from the definitions.
 use Rattle.std.proofs.Common.{◌≡◌, ℕ, pos, negsuc, ◌+◌, ◌*◌, ◌-◌, List, [], ◌∷◌, Some, None, true, false, nat_le, if◌then◌else◌, length, take, replicate, codes, refl}
 use Rattle.amqp_frame.specs.Code.{is_primitive_code, category, size_width, body_len}
-use Rattle.amqp_frame.specs.Whole.{is_frame}
+use Rattle.amqp_frame.specs.Whole.{is_encoded_value}
 use Rattle.amqp_ser.specs.Tree.{Scalar, null, bool, ubyte, ushort, uint, ulong, byte, short, int, long, float, double, decimal32, char, timestamp, binary, string, symbol, name, code, Tree, scalar, list, array, map, described, variant, lazy, transparent, no_pairs, pair, trees_of}
 use Rattle.amqp_ser.specs.Encoding.{encoding}
 use Rattle.amqp_ser.specs.Marked.{with_marker}
@@ -234,23 +234,23 @@ nested_transparent_is_written = refl
 
 -- Lazy trees.
 lazy_string : with_marker marker.Lazy (Some (scalar (binary (bytes (codes "a10161"))))) ≡ Some (lazy (bytes (codes "a10161")))
-unfolding is_frame is_primitive_code category size_width body_len
+unfolding is_encoded_value is_primitive_code category size_width body_len
 lazy_string = refl
 
 lazy_described : with_marker marker.Lazy (Some (scalar (binary (bytes (codes "00a1016145"))))) ≡ Some (lazy (bytes (codes "00a1016145")))
-unfolding is_frame is_primitive_code category size_width body_len
+unfolding is_encoded_value is_primitive_code category size_width body_len
 lazy_described = refl
 
 no_lazy_of_a_prefix : with_marker marker.Lazy (Some (scalar (binary (bytes (codes "a10561"))))) ≡ None
-unfolding is_frame is_primitive_code category size_width body_len
+unfolding is_encoded_value is_primitive_code category size_width body_len
 no_lazy_of_a_prefix = refl
 
 no_lazy_of_two : with_marker marker.Lazy (Some (scalar (binary (bytes (codes "4040"))))) ≡ None
-unfolding is_frame is_primitive_code category size_width body_len
+unfolding is_encoded_value is_primitive_code category size_width body_len
 no_lazy_of_two = refl
 
 no_lazy_of_none : with_marker marker.Lazy (Some (scalar (binary []))) ≡ None
-unfolding is_frame
+unfolding is_encoded_value
 no_lazy_of_none = refl
 
 no_lazy_of_a_string : with_marker marker.Lazy (Some (scalar (string (bytes (codes "40"))))) ≡ None

@@ -16,9 +16,9 @@ pub mod Same
 pub mod Fixed
 pub mod Carried
 pub mod Forms
-pub mod Feeding
+pub mod CompoundSteps
 pub mod OpenCompounds
-pub mod StructFeeding
+pub mod StructSteps
 pub mod OpenStructs
 pub mod Multiple
 pub mod Named

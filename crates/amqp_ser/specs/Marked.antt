@@ -1,6 +1,6 @@
 -- The trees of newtypes with marker names, and the names of descriptors and untyped values.
 use Rattle.std.specs.Prelude.{ℕ, List, Option, Some, None, Bool, nat_eq, length, bytes_eq, codes, if◌then◌else◌}
-use Rattle.amqp_frame.specs.Whole.{is_frame}
+use Rattle.amqp_frame.specs.Whole.{is_encoded_value}
 use Rattle.amqp_ser.specs.Tree.{Scalar, long, binary, string, symbol, timestamp, decimal32, decimal64, decimal128, uuid, Tree, scalar, list, array, lazy, transparent}
 use Rattle.amqp_ser.specs.declared.marker.Marker.{Marker}
 use Rattle.amqp_ser.specs.declared.marker.Marker.TheVariants as marker
@@ -33,8 +33,8 @@ abbrev pub of_length : ℕ → List ℕ → Scalar → Option Tree
 of_length n bs s = if nat_eq (length bs) n then Some (scalar s) else None
 
 -- The lazy tree of these bytes, if they are one encoded value.
-abbrev pub of_frame : List ℕ → Option Tree
-of_frame bs = if is_frame bs then Some (lazy bs) else None
+abbrev pub of_encoded_value : List ℕ → Option Tree
+of_encoded_value bs = if is_encoded_value bs then Some (lazy bs) else None
 
 -- The tree of a marked scalar: a symbol for a string, a timestamp for a long, a decimal or a uuid
 -- for a binary of its length, and a lazy tree for a binary that is one encoded value.
@@ -45,7 +45,7 @@ marked_scalar marker.Decimal32 (binary bs) = of_length 4 bs (decimal32 bs)
 marked_scalar marker.Decimal64 (binary bs) = of_length 8 bs (decimal64 bs)
 marked_scalar marker.Decimal128 (binary bs) = of_length 16 bs (decimal128 bs)
 marked_scalar marker.Uuid (binary bs) = of_length 16 bs (uuid bs)
-marked_scalar marker.Lazy (binary bs) = of_frame bs
+marked_scalar marker.Lazy (binary bs) = of_encoded_value bs
 marked_scalar marker.Other s = Some (scalar s)
 marked_scalar m s = None
 

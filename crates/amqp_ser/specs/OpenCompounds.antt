@@ -3,7 +3,7 @@ use Rattle.std.specs.Prelude.{ℕ, Bool, List, ◌∷◌, ◌++◌, [], Option, 
 use Rattle.std.specs.Borrow.{MutBor}
 use Rattle.amqp_ser.specs.Tree.{Tree}
 use Rattle.amqp_ser.specs.Compounds.{tree_of_parts, paired}
-use Rattle.amqp_ser.specs.Feeding.{Feeds}
+use Rattle.amqp_ser.specs.CompoundSteps.{SerializesPart}
 use Rattle.amqp_ser.specs.declared.kind.CompoundKind.{CompoundKind}
 use Rattle.amqp_ser.specs.declared.kind.CompoundKind.TheVariants as kind
 use Rattle.amqp_ser.specs.declared.compound.map.SerializeMap.{SerializeMap}
@@ -23,10 +23,10 @@ abbrev pub ListHas : {S H O E : Type 0} → (S → CompoundKind → S → H → 
 ListHas has start list elements = has start kind.List list.serializer.now list.compound elements
 
 -- The list accepts one more element, or is unchanged.
-abbrev pub FeedsList : {S H O E : Type 0} → (S → Option Tree → Result O E → S → Type 0) → (S → CompoundKind → S → H → List (Option Tree) → Type 0) →
+abbrev pub SerializesListPart : {S H O E : Type 0} → (S → Option Tree → Result O E → S → Type 0) → (S → CompoundKind → S → H → List (Option Tree) → Type 0) →
     Option Tree → SerializeSeq S O E H → Result (Unit {0}) E → SerializeSeq S O E H → Type 0
-FeedsList permits has element before result after =
-    Feeds permits has kind.List element before.serializer.now before.compound result after.serializer.now after.compound
+SerializesListPart permits has element before result after =
+    SerializesPart permits has kind.List element before.serializer.now before.compound result after.serializer.now after.compound
 
 -- The reference in the map, and the map with another serializer behind that reference.
 abbrev pub map_reference : {S H O E : Type 0} → SerializeMap S O E H → MutBor S
@@ -44,15 +44,15 @@ abbrev pub has_key : {S H O E : Type 0} → SerializeMap S O E H → Bool
 has_key map = map.pending
 
 -- The map accepts one more key or value, or is unchanged.
-abbrev pub FeedsMap : {S H O E : Type 0} → (S → Option Tree → Result O E → S → Type 0) → (S → CompoundKind → S → H → List (Option Tree) → Type 0) →
+abbrev pub SerializesMapPart : {S H O E : Type 0} → (S → Option Tree → Result O E → S → Type 0) → (S → CompoundKind → S → H → List (Option Tree) → Type 0) →
     Option Tree → SerializeMap S O E H → Result (Unit {0}) E → SerializeMap S O E H → Type 0
-FeedsMap permits has part before result after =
-    Feeds permits has kind.Map part before.serializer.now before.compound result after.serializer.now after.compound
+SerializesMapPart permits has part before result after =
+    SerializesPart permits has kind.Map part before.serializer.now before.compound result after.serializer.now after.compound
 
 -- The map accepts one more pair, or is unchanged.
-abbrev pub FeedsPair : {S H O E : Type 0} → (S → Option Tree → Result O E → S → Type 0) → (S → CompoundKind → S → H → List (Option Tree) → Type 0) →
+abbrev pub SerializesPair : {S H O E : Type 0} → (S → Option Tree → Result O E → S → Type 0) → (S → CompoundKind → S → H → List (Option Tree) → Type 0) →
     Option Tree → Option Tree → SerializeMap S O E H → Result (Unit {0}) E → SerializeMap S O E H → Type 0
-FeedsPair {S} permits has key value before result after =
+SerializesPair {S} permits has key value before result after =
     (start : S) (ps : List (Option Tree)) → MapHas has start before ps → paired ps ≡ true →
     MatchResult result
     (λ _. MapHas has start after (ps ++ (key ∷ (value ∷ []))))
@@ -78,10 +78,10 @@ abbrev pub VariantHas : {S H O E : Type 0} → (S → CompoundKind → S → H �
 VariantHas has start index variant fields = has start (kind.Variant index) variant.serializer.now variant.compound fields
 
 -- The variant accepts one more field, or is unchanged.
-abbrev pub FeedsVariant : {S H O E : Type 0} → (S → Option Tree → Result O E → S → Type 0) → (S → CompoundKind → S → H → List (Option Tree) → Type 0) →
+abbrev pub SerializesVariantPart : {S H O E : Type 0} → (S → Option Tree → Result O E → S → Type 0) → (S → CompoundKind → S → H → List (Option Tree) → Type 0) →
     Option Tree → SerializeTupleVariant S O E H → Result (Unit {0}) E → SerializeTupleVariant S O E H → Type 0
-FeedsVariant permits has field before result after =
-    (index : ℕ) → Feeds permits has (kind.Variant index) field before.serializer.now before.compound result after.serializer.now after.compound
+SerializesVariantPart permits has field before result after =
+    (index : ℕ) → SerializesPart permits has (kind.Variant index) field before.serializer.now before.compound result after.serializer.now after.compound
 
 -- Like the definitions above, for a variant with named fields.
 abbrev pub struct_variant_reference : {S H O E : Type 0} → SerializeStructVariant S O E H → MutBor S
@@ -93,7 +93,7 @@ struct_variant_with_serializer variant s = record variant { serializer = record 
 abbrev pub StructVariantHas : {S H O E : Type 0} → (S → CompoundKind → S → H → List (Option Tree) → Type 0) → S → ℕ → SerializeStructVariant S O E H → List (Option Tree) → Type 0
 StructVariantHas has start index variant fields = has start (kind.Variant index) variant.serializer.now variant.compound fields
 
-abbrev pub FeedsStructVariant : {S H O E : Type 0} → (S → Option Tree → Result O E → S → Type 0) → (S → CompoundKind → S → H → List (Option Tree) → Type 0) →
+abbrev pub SerializesStructVariantPart : {S H O E : Type 0} → (S → Option Tree → Result O E → S → Type 0) → (S → CompoundKind → S → H → List (Option Tree) → Type 0) →
     Option Tree → SerializeStructVariant S O E H → Result (Unit {0}) E → SerializeStructVariant S O E H → Type 0
-FeedsStructVariant permits has field before result after =
-    (index : ℕ) → Feeds permits has (kind.Variant index) field before.serializer.now before.compound result after.serializer.now after.compound
+SerializesStructVariantPart permits has field before result after =
+    (index : ℕ) → SerializesPart permits has (kind.Variant index) field before.serializer.now before.compound result after.serializer.now after.compound

@@ -2,8 +2,8 @@
 use Rattle.std.specs.Prelude.{ℕ, List, Bool, Option, Result}
 use Rattle.std.specs.Borrow.{MutBor}
 use Rattle.amqp_ser.specs.Tree.{Tree}
-use Rattle.amqp_ser.specs.Structs.{Stands, single_or_list}
-use Rattle.amqp_ser.specs.StructFeeding.{EndStep, FieldStep, TupleFieldStep}
+use Rattle.amqp_ser.specs.Structs.{HasDescribed, single_or_list}
+use Rattle.amqp_ser.specs.StructSteps.{EndStep, FieldStep, TupleFieldStep}
 use Rattle.amqp_ser.specs.declared.kind.CompoundKind.{CompoundKind}
 use Rattle.amqp_ser.specs.declared.struct_encoding.StructEncoding.{StructEncoding}
 use Rattle.amqp_ser.specs.declared.compound.structs.SerializeStruct.{SerializeStruct}
@@ -52,7 +52,7 @@ module _ {S H O E : Type 0} (permits : S → Option Tree → Result O E → S �
     (has : S → CompoundKind → S → H → List (Option Tree) → Type 0) where
   -- The struct, which this serializer opened, has this descriptor, if any, and these parts.
   abbrev pub StructHas : S → Option (Option Tree) → CompoundKind → SerializeStruct S O E H → List (Option Tree) → Type 0
-  StructHas start prefix kind fields parts = Stands permits has start prefix kind fields.serializer.now fields.compound parts
+  StructHas start prefix kind fields parts = HasDescribed permits has start prefix kind fields.serializer.now fields.compound parts
 
   -- The effect of serializing a field with this key: `FieldStep` has the cases.
   abbrev pub StructFieldStep : (E → Type 0) → List ℕ → Option Tree → SerializeStruct S O E H → Result (Unit {0}) E → SerializeStruct S O E H → Type 0
@@ -67,7 +67,7 @@ module _ {S H O E : Type 0} (permits : S → Option Tree → Result O E → S �
 
   -- Like the definitions above, for a tuple struct.
   abbrev pub TupleStructHas : S → Option (Option Tree) → CompoundKind → SerializeTupleStruct S O E H → List (Option Tree) → Type 0
-  TupleStructHas start prefix kind fields parts = Stands permits has start prefix kind fields.serializer.now fields.compound parts
+  TupleStructHas start prefix kind fields parts = HasDescribed permits has start prefix kind fields.serializer.now fields.compound parts
 
   abbrev pub TupleStructFieldStep : (E → Type 0) → Option Tree → SerializeTupleStruct S O E H → Result (Unit {0}) E → SerializeTupleStruct S O E H → Type 0
   TupleStructFieldStep is_misuse_error value before result after =

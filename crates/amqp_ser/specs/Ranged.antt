@@ -5,7 +5,7 @@ use Rattle.std.specs.Prelude.{FitsSigned}
 use Rattle.std.specs.Int.{w8, w16, w32, w64}
 use Rattle.std.specs.Char.{IsScalar}
 use Rattle.std.specs.Str.{IsUtf8}
-use Rattle.amqp_frame.specs.Frame.{IsFrame}
+use Rattle.amqp_frame.specs.EncodedValue.{IsEncodedValue}
 use Rattle.amqp_ser.specs.Tree.{Scalar, null, bool, ubyte, ushort, uint, ulong, byte, short, int, long, float, double, decimal32, decimal64, decimal128, char, timestamp, uuid, binary, string, symbol, Descriptor, name, code, Tree, Trees, Pairs, scalar, list, array, map, described, variant, lazy, transparent, no_trees, more, no_pairs, pair}
 
 -- Each element is a byte.
@@ -51,7 +51,7 @@ abbrev mutual
   IsRanged (map ps) = HasRangedPairs ps
   IsRanged (described d t) = IsRangedDescriptor d × IsRanged t
   IsRanged (variant i t) = (i < 2 ^ 32) × IsRanged t
-  IsRanged (lazy bs) = AreBytes bs × IsFrame bs
+  IsRanged (lazy bs) = AreBytes bs × IsEncodedValue bs
   IsRanged (transparent ts) = AreRanged ts
 
   pub AreRanged : Trees → Type 0

@@ -70,7 +70,7 @@ named_variant n i t = if is_value_name n then t else if is_descriptor_name n the
 
 -- A compound after a descriptor, if there is one: each result that is permitted for the compound is
 -- permitted for the described value.
-unfoldable pub Stands : {S H R : Type 0} → (S → Option Tree → R → S → Type 0) → (S → CompoundKind → S → H → List (Option Tree) → Type 0) →
+unfoldable pub HasDescribed : {S H R : Type 0} → (S → Option Tree → R → S → Type 0) → (S → CompoundKind → S → H → List (Option Tree) → Type 0) →
     S → Option (Option Tree) → CompoundKind → S → H → List (Option Tree) → Type 0
-Stands {S} {H} {R} permits has start prefix k now compound ps =
+HasDescribed {S} {H} {R} permits has start prefix k now compound ps =
     (mid : S) × (has mid k now compound ps × ((t : Option Tree) (r : R) (after : S) → permits mid t r after → permits start (optionally_described prefix t) r after))

@@ -18,11 +18,11 @@ fn serialize_values<S: Serializer, F: Fields>(
     fields: &F,
 ) -> Result<S::Ok, S::Error>
     requires { (ps : List (Option Tree)) → complete kind ps ≡ true }
-    ensures { S.permits serializer.old (tree_of_parts kind (up_to_last (values_of (F.named fields.now))))
+    ensures { S.permits serializer.old (tree_of_parts kind (up_to_last (values_of (F.field_trees fields.now))))
         result serializer.new }
 {
     let mut compound = serializer.begin_compound(kind);
-    fields.feed(&mut *serializer, &mut compound)?;
+    fields.serialize_list_parts(&mut *serializer, &mut compound)?;
     serializer.end(compound)
 }
 
@@ -35,10 +35,10 @@ fn serialize_entries<S: Serializer, F: Fields>(
     fields: &F,
 ) -> Result<S::Ok, S::Error>
     ensures { S.permits serializer.old
-        (tree_of_parts kind.Map (named_parts (key_of keys) (F.named fields.now))) result serializer.new }
+        (tree_of_parts kind.Map (named_parts (key_of keys) (F.field_trees fields.now))) result serializer.new }
 {
     let mut compound = serializer.begin_compound(CompoundKind::Map);
-    fields.feed_named(&mut *serializer, &mut compound, keys)?;
+    fields.serialize_map_parts(&mut *serializer, &mut compound, keys)?;
     serializer.end(compound)
 }
 
@@ -54,7 +54,7 @@ fn serialize_entries<S: Serializer, F: Fields>(
 pub struct ListOf<F>(pub F);
 
 impl<F: Fields> Serialize for ListOf<F> {
-    ghost tree = { λ l. tree_of_parts kind.List (up_to_last (values_of (F.named l.0))) };
+    ghost tree = { λ l. tree_of_parts kind.List (up_to_last (values_of (F.field_trees l.0))) };
 
     #[inline(always)]
     fn serialize<S: Serializer>(&self, serializer: &mut S) -> Result<S::Ok, S::Error> {
@@ -73,7 +73,7 @@ impl<F: Fields> Serialize for ListOf<F> {
 pub struct VariantOf<F>(pub u32, pub F);
 
 impl<F: Fields> Serialize for VariantOf<F> {
-    ghost tree = { λ v. tree_of_parts (kind.Variant v.0) (up_to_last (values_of (F.named v.1))) };
+    ghost tree = { λ v. tree_of_parts (kind.Variant v.0) (up_to_last (values_of (F.field_trees v.1))) };
 
     #[inline(always)]
     fn serialize<S: Serializer>(&self, serializer: &mut S) -> Result<S::Ok, S::Error> {
@@ -92,7 +92,7 @@ impl<F: Fields> Serialize for VariantOf<F> {
 pub struct MapOf<F>(pub F);
 
 impl<F: Fields> Serialize for MapOf<F> {
-    ghost tree = { λ m. tree_of_parts kind.Map (named_parts string_key (F.named m.0)) };
+    ghost tree = { λ m. tree_of_parts kind.Map (named_parts string_key (F.field_trees m.0)) };
 
     #[inline(always)]
     fn serialize<S: Serializer>(&self, serializer: &mut S) -> Result<S::Ok, S::Error> {
@@ -111,7 +111,7 @@ impl<F: Fields> Serialize for MapOf<F> {
 pub struct SymbolMapOf<F>(pub F);
 
 impl<F: Fields> Serialize for SymbolMapOf<F> {
-    ghost tree = { λ m. tree_of_parts kind.Map (named_parts symbol_key (F.named m.0)) };
+    ghost tree = { λ m. tree_of_parts kind.Map (named_parts symbol_key (F.field_trees m.0)) };
 
     #[inline(always)]
     fn serialize<S: Serializer>(&self, serializer: &mut S) -> Result<S::Ok, S::Error> {

@@ -6,7 +6,7 @@
 pub(crate) mod any_field;
 pub(crate) mod body;
 pub(crate) mod described;
-pub(crate) mod feed;
+pub(crate) mod part;
 mod list_field;
 mod map;
 mod results;

@@ -2,11 +2,11 @@
 
 ghost use Rattle.std.specs.Prelude.{◌≡◌, ◌∷◌, [], ℕ, List, Option, Bool, true};
 ghost use Rattle.amqp_ser.specs.Tree.{Tree};
-ghost use Rattle.amqp_ser.specs.Feeding.{Feeds, FeedsAll};
+ghost use Rattle.amqp_ser.specs.CompoundSteps.{SerializesPart, SerializesParts};
 ghost use Rattle.amqp_ser.specs.Named.{any_there, named_parts, key_of, up_to_last, values_of};
 ghost use Rattle.amqp_ser.specs.declared.kind.CompoundKind.{CompoundKind};
 
-use crate::compound::feed::feed_part;
+use crate::compound::part::serialize_part;
 use crate::serialize::Serialize;
 use crate::serializer::Serializer;
 use amqp_data::SymbolRef;
@@ -26,8 +26,8 @@ pub enum Keys {
 /// The fields of a struct with their names, in order. The macro [`fields!`] builds them.
 ///
 /// # Implementer notes
-/// `named` lists the fields: name, presence and tree. `feed` and `feed_named` append the parts that
-/// `named` determines to those that the compound already has. An error must be permitted for every
+/// `field_trees` lists the fields: name, presence and tree. `serialize_list_parts` and `serialize_map_parts` append the parts that
+/// `field_trees` determines to those that the compound already has. An error must be permitted for every
 /// continuation of the compound.
 ///
 /// # Example
@@ -35,7 +35,7 @@ pub enum Keys {
 /// a map with string keys.
 pub trait Fields {
     /// The fields in order: the name, whether the field is present, and the tree.
-    ghost named: { Self → List (List ℕ × (Bool × Option Tree)) };
+    ghost field_trees: { Self → List (List ℕ × (Bool × Option Tree)) };
 
     /// Returns whether at least one field is present.
     ///
@@ -43,7 +43,7 @@ pub trait Fields {
     /// Only an absent `y`: `false`, and the list is `45`. With `x`, the ubyte 1, after it: `true`,
     /// and the list is `c00402405001`.
     fn any_there(&self) -> bool
-        ensures { result ≡ any_there (values_of (named self.now)) };
+        ensures { result ≡ any_there (values_of (field_trees self.now)) };
 
     /// Serializes the fields up to the last present one into an open compound.
     ///
@@ -53,12 +53,12 @@ pub trait Fields {
     /// # Example
     /// The fields `x`, the ubyte 1, and `y`, absent, are one element, `5001`. If `y` comes first,
     /// they are `40` and `5001`.
-    fn feed<S: Serializer>(
+    fn serialize_list_parts<S: Serializer>(
         &self,
         serializer: &mut S,
         compound: &mut S::Open,
     ) -> Result<(), S::Error>
-        ensures { FeedsAll S.permits S.has (up_to_last (values_of (named self.now))) serializer.old
+        ensures { SerializesParts S.permits S.has (up_to_last (values_of (field_trees self.now))) serializer.old
             compound.old result serializer.new compound.new };
 
     /// Serializes the name, as a key, and the value of each present field into an open compound.
@@ -68,53 +68,53 @@ pub trait Fields {
     ///
     /// # Example
     /// The fields `x`, the ubyte 1, and `y`, absent, are `a301785001` with symbols as keys.
-    fn feed_named<S: Serializer>(
+    fn serialize_map_parts<S: Serializer>(
         &self,
         serializer: &mut S,
         compound: &mut S::Open,
         keys: Keys,
     ) -> Result<(), S::Error>
-        ensures { FeedsAll S.permits S.has (named_parts (key_of keys) (named self.now))
+        ensures { SerializesParts S.permits S.has (named_parts (key_of keys) (field_trees self.now))
             serializer.old compound.old result serializer.new compound.new };
 }
 
 /// Serializes the name of a field as a key of an open compound.
 #[inline(always)]
-pub(crate) fn feed_key<S: Serializer>(
+pub(crate) fn serialize_name<S: Serializer>(
     serializer: &mut S,
     compound: &mut S::Open,
     keys: Keys,
     name: &str,
 ) -> Result<(), S::Error>
     ensures { (kind : CompoundKind) →
-        Feeds S.permits S.has kind (key_of keys name.now) serializer.old compound.old result
+        SerializesPart S.permits S.has kind (key_of keys name.now) serializer.old compound.old result
         serializer.new compound.new }
 {
     match keys {
-        Keys::Strings => feed_part(serializer, compound, &name),
-        Keys::Symbols => feed_part(serializer, compound, &SymbolRef::from(name)),
+        Keys::Strings => serialize_part(serializer, compound, &name),
+        Keys::Symbols => serialize_part(serializer, compound, &SymbolRef::from(name)),
     }
 }
 
 /// Serializes a value, then the name and the value of each remaining field that is present.
 #[inline(always)]
-pub(crate) fn feed_value<S: Serializer, V: Serialize, R: Fields>(
+pub(crate) fn serialize_value_and_rest<S: Serializer, V: Serialize, R: Fields>(
     serializer: &mut S,
     compound: &mut S::Open,
     keys: Keys,
     value: &V,
     rest: &R,
 ) -> Result<(), S::Error>
-    ensures { FeedsAll S.permits S.has
-        (V.tree value.now ∷ named_parts (key_of keys) (R.named rest.now)) serializer.old compound.old
+    ensures { SerializesParts S.permits S.has
+        (V.tree value.now ∷ named_parts (key_of keys) (R.field_trees rest.now)) serializer.old compound.old
         result serializer.new compound.new }
 {
-    feed_part(&mut *serializer, &mut *compound, value)?;
-    rest.feed_named(serializer, compound, keys)
+    serialize_part(&mut *serializer, &mut *compound, value)?;
+    rest.serialize_map_parts(serializer, compound, keys)
 }
 
 impl Fields for () {
-    ghost named = { λ _. [] };
+    ghost field_trees = { λ _. [] };
 
     #[inline(always)]
     fn any_there(&self) -> bool {
@@ -122,7 +122,7 @@ impl Fields for () {
     }
 
     #[inline(always)]
-    fn feed<S: Serializer>(
+    fn serialize_list_parts<S: Serializer>(
         &self,
         _serializer: &mut S,
         _compound: &mut S::Open,
@@ -131,7 +131,7 @@ impl Fields for () {
     }
 
     #[inline(always)]
-    fn feed_named<S: Serializer>(
+    fn serialize_map_parts<S: Serializer>(
         &self,
         _serializer: &mut S,
         _compound: &mut S::Open,
@@ -156,7 +156,7 @@ pub struct Field<'a, V, R> {
 }
 
 impl<V: Serialize, R: Fields> Fields for Field<'_, V, R> {
-    ghost named = { λ f. (f.name.now, (true, V.tree f.value)) ∷ R.named f.rest };
+    ghost field_trees = { λ f. (f.name.now, (true, V.tree f.value)) ∷ R.field_trees f.rest };
 
     #[inline(always)]
     fn any_there(&self) -> bool {
@@ -164,23 +164,23 @@ impl<V: Serialize, R: Fields> Fields for Field<'_, V, R> {
     }
 
     #[inline(always)]
-    fn feed<S: Serializer>(
+    fn serialize_list_parts<S: Serializer>(
         &self,
         serializer: &mut S,
         compound: &mut S::Open,
     ) -> Result<(), S::Error> {
-        feed_part(&mut *serializer, &mut *compound, &self.value)?;
-        self.rest.feed(serializer, compound)
+        serialize_part(&mut *serializer, &mut *compound, &self.value)?;
+        self.rest.serialize_list_parts(serializer, compound)
     }
 
     #[inline(always)]
-    fn feed_named<S: Serializer>(
+    fn serialize_map_parts<S: Serializer>(
         &self,
         serializer: &mut S,
         compound: &mut S::Open,
         keys: Keys,
     ) -> Result<(), S::Error> {
-        feed_key(&mut *serializer, &mut *compound, keys, self.name)?;
-        feed_value(serializer, compound, keys, &self.value, &self.rest)
+        serialize_name(&mut *serializer, &mut *compound, keys, self.name)?;
+        serialize_value_and_rest(serializer, compound, keys, &self.value, &self.rest)
     }
 }

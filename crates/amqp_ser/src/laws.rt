@@ -8,7 +8,7 @@ pub mod trees_of_carried_types;
 ghost use Rattle.std.specs.Prelude.{◌≡◌, ◌∷◌, [], ◌<◌, ◌^◌, ℕ, Some, true, false, List, length, map};
 ghost use Rattle.std.specs.List.{AllByRecursion, concat};
 ghost use Rattle.amqp_frame.specs.Cut.{IsCut};
-ghost use Rattle.amqp_frame.specs.Frame.{IsFrame};
+ghost use Rattle.amqp_frame.specs.EncodedValue.{IsEncodedValue};
 ghost use Rattle.amqp_ser.specs.Encoding.{constructor, encoding, payload};
 ghost use Rattle.amqp_ser.specs.Forms.{IsForm, has_one_form};
 ghost use Rattle.amqp_ser.specs.Ranged.{IsRanged};
@@ -36,7 +36,7 @@ pub fn one_form_is_that_of_arrays()
 /// The encoding of a writable tree in range that is not transparent is one encoded value.
 pub fn one_encoded_value()
     ensures { (t : Tree) → IsRanged t → writable t ≡ true →
-        is_transparent t ≡ false → IsFrame (encoding t) }
+        is_transparent t ≡ false → IsEncodedValue (encoding t) }
 {}
 
 /// The concatenated encodings of writable trees in range, none of them transparent, are split into

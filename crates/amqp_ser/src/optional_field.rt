@@ -4,8 +4,8 @@
 ghost use Rattle.std.specs.Prelude.{◌∷◌, is_some};
 ghost use Rattle.amqp_ser.specs.Carried.{optional};
 
-use crate::compound::feed::feed_part;
-use crate::fields::{Fields, Keys, feed_key, feed_value};
+use crate::compound::part::serialize_part;
+use crate::fields::{Fields, Keys, serialize_name, serialize_value_and_rest};
 use crate::serialize::Serialize;
 use crate::serializer::Serializer;
 
@@ -25,8 +25,8 @@ pub struct OptionalField<'a, V, R> {
 }
 
 impl<V: Serialize, R: Fields> Fields for OptionalField<'_, V, R> {
-    ghost named = { λ f. (f.name.now, (is_some f.value.now, optional V.tree f.value.now))
-        ∷ R.named f.rest };
+    ghost field_trees = { λ f. (f.name.now, (is_some f.value.now, optional V.tree f.value.now))
+        ∷ R.field_trees f.rest };
 
     #[inline(always)]
     fn any_there(&self) -> bool {
@@ -34,7 +34,7 @@ impl<V: Serialize, R: Fields> Fields for OptionalField<'_, V, R> {
     }
 
     #[inline(always)]
-    fn feed<S: Serializer>(
+    fn serialize_list_parts<S: Serializer>(
         &self,
         serializer: &mut S,
         compound: &mut S::Open,
@@ -42,22 +42,22 @@ impl<V: Serialize, R: Fields> Fields for OptionalField<'_, V, R> {
         if !self.any_there() {
             return Ok(());
         }
-        feed_part(&mut *serializer, &mut *compound, self.value)?;
-        self.rest.feed(serializer, compound)
+        serialize_part(&mut *serializer, &mut *compound, self.value)?;
+        self.rest.serialize_list_parts(serializer, compound)
     }
 
     #[inline(always)]
-    fn feed_named<S: Serializer>(
+    fn serialize_map_parts<S: Serializer>(
         &self,
         serializer: &mut S,
         compound: &mut S::Open,
         keys: Keys,
     ) -> Result<(), S::Error> {
         match self.value {
-            None => self.rest.feed_named(serializer, compound, keys),
+            None => self.rest.serialize_map_parts(serializer, compound, keys),
             Some(value) => {
-                feed_key(&mut *serializer, &mut *compound, keys, self.name)?;
-                feed_value(serializer, compound, keys, value, &self.rest)
+                serialize_name(&mut *serializer, &mut *compound, keys, self.name)?;
+                serialize_value_and_rest(serializer, compound, keys, value, &self.rest)
             }
         }
     }

@@ -10,7 +10,7 @@ ghost use Rattle.amqp_ser.specs.Meant.{fits, meant};
 use crate::fixed::Fixed;
 use crate::kind::CompoundKind;
 use crate::marker::Marker;
-use amqp_frame::is_frame;
+use amqp_frame::is_encoded_value;
 
 /// What a serializer keeps of the calls before the next tree: the requirement on this tree.
 ///
@@ -85,7 +85,7 @@ impl Pending {
             Pending::Marker(Marker::Decimal32) => bytes.len() == 4,
             Pending::Marker(Marker::Decimal64) => bytes.len() == 8,
             Pending::Marker(Marker::Decimal128 | Marker::Uuid) => bytes.len() == 16,
-            Pending::Marker(Marker::Lazy) => is_frame(bytes),
+            Pending::Marker(Marker::Lazy) => is_encoded_value(bytes),
             _ => false,
         }
     }

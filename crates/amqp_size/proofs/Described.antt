@@ -116,7 +116,7 @@ value_step : (p : Position) (k : ℕ) (b : BasePosition) (x : Descriptor) → wi
     ((t : Tree) → suits p (described x t) ≡ true → extent (position.Value k b) t ≡ extent p (described x t)) → ((t : Tree) → next p (described x t) ≡ base_position b) → IsRangedDescriptor x →
     (t : Option Tree) (r : Result ℕ SizeError) (after : Context) → AtPosition (position.Value k b) t r after → AtPosition p (as_described (Some x) t) r after
 value_step p k b x same limit fitting len then g None (Ok n) after h = absurd h
-value_step p k b x same limit fitting len then g None (Err e) after h = (h.0, h.1 ∙ ap context.Plain (sym same))
+value_step p k b x same limit fitting len then g None (Err e) after h = (h.0, h.1 ∙ ap context.Unmarked (sym same))
 value_step p k b x same limit fitting len then g (Some t) (Ok n) after h =
     let s = sym (fitting t) ∙ h.suited in
     record {
@@ -124,11 +124,11 @@ value_step p k b x same limit fitting len then g (Some t) (Ok n) after h =
       uniform_arrays_it = h.uniform_arrays_it;
       suited = s;
       len = h.len ∙ len t s;
-      position = h.position ∙ ap context.Plain (sym (then t));
+      position = h.position ∙ ap context.Unmarked (sym (then t));
       ranged = (g, h.ranged);
     }
-value_step p k b x same limit fitting len then g (Some t) (Err error.TooLong) after h = (sym (limit t) ∙ h.0, h.1 ∙ ap context.Plain (sym same))
-value_step p k b x same limit fitting len then g (Some t) (Err error.InvalidValue) after h = (ap (λ s. uniform_arrays t && s) (sym (fitting t)) ∙ h.0, h.1 ∙ ap context.Plain (sym same))
+value_step p k b x same limit fitting len then g (Some t) (Err error.TooLong) after h = (sym (limit t) ∙ h.0, h.1 ∙ ap context.Unmarked (sym same))
+value_step p k b x same limit fitting len then g (Some t) (Err error.InvalidValue) after h = (ap (λ s. uniform_arrays t && s) (sym (fitting t)) ∙ h.0, h.1 ∙ ap context.Unmarked (sym same))
 value_step p k b x same limit fitting len then g (Some t) (Err e) after h = absurd h.0
 
 -- The limits of a described value at a position.
@@ -181,23 +181,23 @@ answered u v t r after q h = subst (λ w. AtPosition (position_of w) (meant w t)
 -- A result that is permitted for the value is permitted for the described value.
 pub described_step : (u v : Context) (n : ℕ) (x : Descriptor) → described_context u n ≡ Some v → n ≡ length (descriptor_form x) → descriptor_fits x ≡ true → IsRangedDescriptor x →
     (t : Option Tree) (r : Result ℕ SizeError) (after : Context) → AtPosition (position_of v) (meant v t) r after → AtPosition (position_of u) (meant u (as_described (Some x) t)) r after
-described_step (context.Plain position.Root) v n x s e f g t r after h =
+described_step (context.Unmarked position.Root) v n x s e f g t r after h =
     value_step position.Root (n + 1) base.Root x refl (λ t. limit_here x n e f t) (λ t. refl) (λ t q. sym (length-described x t n e)) (λ t. refl) g t r after
-    (answered (context.Plain (position.Value (n + 1) base.Root)) v t r after (some_context _ v s) h)
-described_step (context.Plain position.InCompound) v n x s e f g t r after h =
+    (answered (context.Unmarked (position.Value (n + 1) base.Root)) v t r after (some_context _ v s) h)
+described_step (context.Unmarked position.InCompound) v n x s e f g t r after h =
     value_step position.InCompound (n + 1) base.InCompound x refl (λ t. limit_here x n e f t) (λ t. refl) (λ t q. sym (length-described x t n e)) (λ t. refl) g t r after
-    (answered (context.Plain (position.Value (n + 1) base.InCompound)) v t r after (some_context _ v s) h)
-described_step (context.Plain position.FirstElement) v n x s e f g t r after h =
+    (answered (context.Unmarked (position.Value (n + 1) base.InCompound)) v t r after (some_context _ v s) h)
+described_step (context.Unmarked position.FirstElement) v n x s e f g t r after h =
     value_step position.FirstElement (n + 1) base.FirstElement x refl (λ t. limit_here x n e f t) (λ t. refl) (λ t q. absurd (never q)) (λ t. refl) g t r after
-    (answered (context.Plain (position.Value (n + 1) base.FirstElement)) v t r after (some_context _ v s) h)
-described_step (context.Plain (position.OtherElement c)) v n x s e f g t r after h =
+    (answered (context.Unmarked (position.Value (n + 1) base.FirstElement)) v t r after (some_context _ v s) h)
+described_step (context.Unmarked (position.OtherElement c)) v n x s e f g t r after h =
     value_step (position.OtherElement c) (n + 1) (base.OtherElement c) x refl (λ t. limit_here x n e f t) (λ t. refl) (λ t q. absurd (never q)) (λ t. refl) g t r after
-    (answered (context.Plain (position.Value (n + 1) (base.OtherElement c))) v t r after (some_context _ v s) h)
-described_step (context.Plain position.Descriptor) v n x s e f g t r after h = cc
-described_step (context.Plain (position.Value k b)) v n x s e f g t r after h =
+    (answered (context.Unmarked (position.Value (n + 1) (base.OtherElement c))) v t r after (some_context _ v s) h)
+described_step (context.Unmarked position.Descriptor) v n x s e f g t r after h = cc
+described_step (context.Unmarked (position.Value k b)) v n x s e f g t r after h =
     value_step (position.Value k b) (k + (n + 1)) b x refl (λ t. limit_after x n k e f t) (λ t. refl)
     (λ t q. let len = length-described x t n e in omega arith) (λ t. refl) g t r after
-    (answered (context.Plain (position.Value (k + (n + 1)) b)) v t r after (some_context _ v s) h)
+    (answered (context.Unmarked (position.Value (k + (n + 1)) b)) v t r after (some_context _ v s) h)
 described_step (context.Array p) v n x s e f g t r after h =
     subst (λ o. AtPosition p o r after) (sym (no_array_described x t)) (answered (context.Nothing p) v t r after (some_context _ v s) h)
 described_step (context.Transparent p) v n x s e f g t r after h =
@@ -208,12 +208,12 @@ described_step (context.Nothing p) v n x s e f g t r after h = answered (context
 
 -- After the value, the serializer is at the position of the described value.
 pub described_rest : (u v : Context) (n : ℕ) → described_context u n ≡ Some v → without_prefix (position_of u) ≡ without_prefix (position_of v)
-described_rest (context.Plain position.Root) v n s = sym (ap (λ w. without_prefix (position_of w)) (some_context _ v s))
-described_rest (context.Plain position.InCompound) v n s = sym (ap (λ w. without_prefix (position_of w)) (some_context _ v s))
-described_rest (context.Plain position.FirstElement) v n s = sym (ap (λ w. without_prefix (position_of w)) (some_context _ v s))
-described_rest (context.Plain (position.OtherElement c)) v n s = sym (ap (λ w. without_prefix (position_of w)) (some_context _ v s))
-described_rest (context.Plain position.Descriptor) v n s = cc
-described_rest (context.Plain (position.Value k b)) v n s = sym (ap (λ w. without_prefix (position_of w)) (some_context _ v s))
+described_rest (context.Unmarked position.Root) v n s = sym (ap (λ w. without_prefix (position_of w)) (some_context _ v s))
+described_rest (context.Unmarked position.InCompound) v n s = sym (ap (λ w. without_prefix (position_of w)) (some_context _ v s))
+described_rest (context.Unmarked position.FirstElement) v n s = sym (ap (λ w. without_prefix (position_of w)) (some_context _ v s))
+described_rest (context.Unmarked (position.OtherElement c)) v n s = sym (ap (λ w. without_prefix (position_of w)) (some_context _ v s))
+described_rest (context.Unmarked position.Descriptor) v n s = cc
+described_rest (context.Unmarked (position.Value k b)) v n s = sym (ap (λ w. without_prefix (position_of w)) (some_context _ v s))
 described_rest (context.Array p) v n s = sym (ap (λ w. without_prefix (position_of w)) (some_context _ v s))
 described_rest (context.Transparent p) v n s = sym (ap (λ w. without_prefix (position_of w)) (some_context _ v s))
 described_rest (context.Scalar m p) v n s = sym (ap (λ w. without_prefix (position_of w)) (some_context _ v s))
@@ -231,21 +231,21 @@ past_after k b x n e h t =
     let len = length-described x t n e in
     left_false (is_length (k + length (encoding (described x t)))) (within_limits (described x t)) (le_false (k + length (encoding (described x t))) 18446744073709551615 (omega arith))
 
-too_long : (p : Position) (x : Descriptor) → ((t : Tree) → within_limits_at p (described x t) ≡ false) → (t : Option Tree) (e : SizeError) → e ≡ error.TooLong → AtPosition p (as_described (Some x) t) (Err e) (context.Plain (without_prefix p))
+too_long : (p : Position) (x : Descriptor) → ((t : Tree) → within_limits_at p (described x t) ≡ false) → (t : Option Tree) (e : SizeError) → e ≡ error.TooLong → AtPosition p (as_described (Some x) t) (Err e) (context.Unmarked (without_prefix p))
 too_long p x h None e q = (subst refuses_none (sym q) tt, refl)
 too_long p x h (Some t) e q = (subst (λ y. refused p (described x t) y) (sym q) (h t), refl)
 
-pub no_nested : (x : Descriptor) (t : Option Tree) (e : SizeError) → e ≡ error.InvalidValue → AtPosition position.Descriptor (as_described (Some x) t) (Err e) (context.Plain position.Descriptor)
+pub no_nested : (x : Descriptor) (t : Option Tree) (e : SizeError) → e ≡ error.InvalidValue → AtPosition position.Descriptor (as_described (Some x) t) (Err e) (context.Unmarked position.Descriptor)
 no_nested x None e q = (subst refuses_none (sym q) tt, refl)
 no_nested x (Some t) e q = (subst (λ y. refused position.Descriptor (described x t) y) (sym q) (right_false (uniform_arrays t) false refl), refl)
 
-pub described_refusal : (u : Context) (n : ℕ) (x : Descriptor) (e : SizeError) → Undescribed u n e → n ≡ length (descriptor_form x) → (t : Option Tree) → AtPosition (position_of u) (meant u (as_described (Some x) t)) (Err e) (context.Plain (without_prefix (position_of u)))
-described_refusal (context.Plain position.Root) n x e h l t = too_long position.Root x (past_here x n l h.1) t e h.0
-described_refusal (context.Plain position.InCompound) n x e h l t = too_long position.InCompound x (past_here x n l h.1) t e h.0
-described_refusal (context.Plain position.FirstElement) n x e h l t = too_long position.FirstElement x (past_here x n l h.1) t e h.0
-described_refusal (context.Plain (position.OtherElement c)) n x e h l t = too_long (position.OtherElement c) x (past_here x n l h.1) t e h.0
-described_refusal (context.Plain position.Descriptor) n x e h l t = no_nested x t e h
-described_refusal (context.Plain (position.Value k b)) n x e h l t = too_long (position.Value k b) x (past_after k b x n l h.1) t e h.0
+pub described_refusal : (u : Context) (n : ℕ) (x : Descriptor) (e : SizeError) → Undescribed u n e → n ≡ length (descriptor_form x) → (t : Option Tree) → AtPosition (position_of u) (meant u (as_described (Some x) t)) (Err e) (context.Unmarked (without_prefix (position_of u)))
+described_refusal (context.Unmarked position.Root) n x e h l t = too_long position.Root x (past_here x n l h.1) t e h.0
+described_refusal (context.Unmarked position.InCompound) n x e h l t = too_long position.InCompound x (past_here x n l h.1) t e h.0
+described_refusal (context.Unmarked position.FirstElement) n x e h l t = too_long position.FirstElement x (past_here x n l h.1) t e h.0
+described_refusal (context.Unmarked (position.OtherElement c)) n x e h l t = too_long (position.OtherElement c) x (past_here x n l h.1) t e h.0
+described_refusal (context.Unmarked position.Descriptor) n x e h l t = no_nested x t e h
+described_refusal (context.Unmarked (position.Value k b)) n x e h l t = too_long (position.Value k b) x (past_after k b x n l h.1) t e h.0
 described_refusal (context.Array p) n x e h l t = absurd h
 described_refusal (context.Transparent p) n x e h l t = absurd h
 described_refusal (context.Scalar m p) n x e h l t = absurd h

@@ -8,7 +8,7 @@ use Rattle.amqp_size.specs.WholePosition as position
 use Rattle.amqp_size.specs.WholeContext as context
 
 -- A descriptor is too long for a value after it.
-pub too_long : (p q : Position) (n : ℕ) → described_position p n ≡ Some q → 18446744073709551615 < prefix_len_of p + (n + 1) → Undescribed (context.Plain p) n error.TooLong
+pub too_long : (p q : Position) (n : ℕ) → described_position p n ≡ Some q → 18446744073709551615 < prefix_len_of p + (n + 1) → Undescribed (context.Unmarked p) n error.TooLong
 too_long position.Root q n d l = (refl, l)
 too_long position.InCompound q n d l = (refl, l)
 too_long position.FirstElement q n d l = (refl, l)

@@ -52,9 +52,9 @@ map_of start compound ps (inr (inr h)) = absurd (no_maps.1 h.kind_is)
 -- A part that fails.
 pub refused_any : (start : SizeSerializer) (kind : CompoundKind) (compound : OpenCompound) (ps : List (Option Tree)) → Holding start kind compound ps → (p : Option Tree) (e : SizeError) (after : Context) →
     AtPosition (position_of compound.inner_context) (meant compound.inner_context p) (Err e) after → (others : List (Option Tree)) →
-    AtPosition (position_of start.context) (meant start.context (tree_of_parts kind (ps ++ (p ∷ others)))) (Err e) (context.Plain (without_prefix compound.position))
+    AtPosition (position_of start.context) (meant start.context (tree_of_parts kind (ps ++ (p ∷ others)))) (Err e) (context.Unmarked (without_prefix compound.position))
 refused_any start kind compound ps (inl h) p e after r others =
-    refused_part start kind compound ps h p e after (subst (λ u. AtPosition (position_of u) (meant u p) (Err e) after) h.fed.inner_context r) others
+    refused_part start kind compound ps h p e after (subst (λ u. AtPosition (position_of u) (meant u p) (Err e) after) h.accepted.inner_context r) others
 refused_any start kind compound ps (inr (inl h)) p e after r others =
     refused_transparent start kind compound ps h p e after (subst (λ u. AtPosition (position_of u) (meant u p) (Err e) after) h.inner_context r) others
 refused_any start kind compound ps (inr (inr h)) p e after r others = refused_single start kind compound ps h p e after r others
@@ -62,33 +62,33 @@ refused_any start kind compound ps (inr (inr h)) p e after r others = refused_si
 taken_joined : (start : SizeSerializer) (kind : CompoundKind) (compound new : OpenCompound) (ps : List (Option Tree)) → HoldsTransparent start kind compound ps → (p : Option Tree) (size : ℕ) (after : Context) → AtPosition Root p (Ok size) after →
     (res : Result (Unit {0}) SizeError) → AddsPart compound new size after res →
     MatchResult res (λ _. Holding start kind new (ps ++ (p ∷ [])))
-    (λ e. (others : List (Option Tree)) → AtPosition (position_of start.context) (meant start.context (tree_of_parts kind (ps ++ (p ∷ others)))) (Err e) (context.Plain (without_prefix compound.position)))
+    (λ e. (others : List (Option Tree)) → AtPosition (position_of start.context) (meant start.context (tree_of_parts kind (ps ++ (p ∷ others)))) (Err e) (context.Unmarked (without_prefix compound.position)))
 taken_joined start kind compound new ps h None size after r res k = absurd r
 taken_joined start kind compound new ps h (Some t) size after r (Ok u) k =
     let m = k.transparent h.resolved_kind in
     inr (inl (taken_transparent start kind compound new ps h t size after r k.position k.resolved_kind m.0 m.1))
 taken_joined start kind compound new ps h (Some t) size after r (Err e) k = λ others.
     let m = k.transparent h.resolved_kind in
-    subst (λ (x : SizeError). AtPosition (position_of start.context) (meant start.context (tree_of_parts kind (ps ++ (Some t ∷ others)))) (Err x) (context.Plain (without_prefix compound.position))) (sym m.0)
+    subst (λ (x : SizeError). AtPosition (position_of start.context) (meant start.context (tree_of_parts kind (ps ++ (Some t ∷ others)))) (Err x) (context.Unmarked (without_prefix compound.position))) (sym m.0)
     (over_transparent start kind compound ps h t size r.len m.1 others)
 
 taken_one : (start : SizeSerializer) (kind : CompoundKind) (compound new : OpenCompound) (ps : List (Option Tree)) → HoldsSingle start kind compound ps → (p : Option Tree) (size : ℕ) (after : Context) → AtPosition (position_of compound.inner_context) (meant compound.inner_context p) (Ok size) after →
     (res : Result (Unit {0}) SizeError) → AddsPart compound new size after res →
     MatchResult res (λ _. Holding start kind new (ps ++ (p ∷ [])))
-    (λ e. (others : List (Option Tree)) → AtPosition (position_of start.context) (meant start.context (tree_of_parts kind (ps ++ (p ∷ others)))) (Err e) (context.Plain (without_prefix compound.position)))
+    (λ e. (others : List (Option Tree)) → AtPosition (position_of start.context) (meant start.context (tree_of_parts kind (ps ++ (p ∷ others)))) (Err e) (context.Unmarked (without_prefix compound.position)))
 taken_one start kind compound new ps h p size after r (Ok u) k =
     let m = k.single h.resolved_kind in
     inr (inr (first_single start kind compound new ps h p size after r m.0 m.1.0 m.1.1.0 m.1.1.1 k.position k.resolved_kind))
 taken_one start kind compound new ps h p size after r (Err e) k = λ others.
     let m = k.single h.resolved_kind in
-    subst (λ (x : SizeError). AtPosition (position_of start.context) (meant start.context (tree_of_parts kind (ps ++ (p ∷ others)))) (Err x) (context.Plain (without_prefix compound.position))) (sym m.0)
+    subst (λ (x : SizeError). AtPosition (position_of start.context) (meant start.context (tree_of_parts kind (ps ++ (p ∷ others)))) (Err x) (context.Unmarked (without_prefix compound.position))) (sym m.0)
     (second_single start kind compound ps h m.1 p others)
 
 gathers : (start : SizeSerializer) (kind : CompoundKind) (compound new : OpenCompound) (ps : List (Option Tree)) (p : Option Tree) (res : Result (Unit {0}) SizeError) →
     MatchResult res (λ _. HoldsGathered start kind new (ps ++ (p ∷ [])))
-    (λ e. (others : List (Option Tree)) → AtPosition (position_of start.context) (meant start.context (tree_of_parts kind (ps ++ (p ∷ others)))) (Err e) (context.Plain (without_prefix compound.position))) →
+    (λ e. (others : List (Option Tree)) → AtPosition (position_of start.context) (meant start.context (tree_of_parts kind (ps ++ (p ∷ others)))) (Err e) (context.Unmarked (without_prefix compound.position))) →
     MatchResult res (λ _. Holding start kind new (ps ++ (p ∷ [])))
-    (λ e. (others : List (Option Tree)) → AtPosition (position_of start.context) (meant start.context (tree_of_parts kind (ps ++ (p ∷ others)))) (Err e) (context.Plain (without_prefix compound.position)))
+    (λ e. (others : List (Option Tree)) → AtPosition (position_of start.context) (meant start.context (tree_of_parts kind (ps ++ (p ∷ others)))) (Err e) (context.Unmarked (without_prefix compound.position)))
 gathers start kind compound new ps p (Ok u) m = inl m
 gathers start kind compound new ps p (Err e) m = m
 
@@ -96,10 +96,10 @@ gathers start kind compound new ps p (Err e) m = m
 pub taken_any : (start : SizeSerializer) (kind : CompoundKind) (compound new : OpenCompound) (ps : List (Option Tree)) → Holding start kind compound ps → (p : Option Tree) (size : ℕ) (after : Context) →
     AtPosition (position_of compound.inner_context) (meant compound.inner_context p) (Ok size) after → (res : Result (Unit {0}) SizeError) → AddsPart compound new size after res →
     MatchResult res (λ _. Holding start kind new (ps ++ (p ∷ [])))
-    (λ e. (others : List (Option Tree)) → AtPosition (position_of start.context) (meant start.context (tree_of_parts kind (ps ++ (p ∷ others)))) (Err e) (context.Plain (without_prefix compound.position)))
+    (λ e. (others : List (Option Tree)) → AtPosition (position_of start.context) (meant start.context (tree_of_parts kind (ps ++ (p ∷ others)))) (Err e) (context.Unmarked (without_prefix compound.position)))
 taken_any start kind compound new ps (inl h) p size after r res k =
     gathers start kind compound new ps p res
-    (end_taken start kind compound new ps h p size after (subst (λ u. AtPosition (position_of u) (meant u p) (Ok size) after) h.fed.inner_context r) k.position k.resolved_kind k.few k.small res (k.before_last h.gathered) k.kept (k.gathered h.gathered))
+    (end_taken start kind compound new ps h p size after (subst (λ u. AtPosition (position_of u) (meant u p) (Ok size) after) h.accepted.inner_context r) k.position k.resolved_kind k.few k.small res (k.before_last h.gathered) k.kept (k.gathered h.gathered))
 taken_any start kind compound new ps (inr (inl h)) p size after r res k =
     taken_joined start kind compound new ps h p size after (subst (λ u. AtPosition (position_of u) (meant u p) (Ok size) after) h.inner_context r) res k
 taken_any start kind compound new ps (inr (inr h)) p size after r res k = taken_one start kind compound new ps h p size after r res k

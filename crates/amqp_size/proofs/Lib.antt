@@ -10,7 +10,7 @@ pub mod Positions
 pub mod Refusing
 pub mod Root
 pub mod Settled
-pub mod Spoil
+pub mod Unwritable
 pub mod Transparent
 pub mod Whole
 pub mod TakesWhole

@@ -27,12 +27,12 @@ one_variant i (p ∷ (q ∷ ps)) ts e done n = cc
 refused_when_opened : (u : Context) (k : CompoundKind) (ps : List (Option Tree)) (ts : Trees) → all_trees ps ≡ Some ts → complete k ps ≡ true → (k ≡ kinds.Single → ⊥) → meant u (tree_of_parts k ps) ≡ None → resolved_kind_of u k ≡ resolved_kinds.Refused
 unfolding tree_of_parts
 refused_when_opened u kinds.Single ps ts e done b n = absurd (b refl)
-refused_when_opened (context.Plain p) kinds.List ps ts e done b n = let q : None ≡ Some (list ts) = sym n ∙ ap (as_kind kinds.List) e in cc
-refused_when_opened (context.Plain p) kinds.Map ps ts e done b n =
+refused_when_opened (context.Unmarked p) kinds.List ps ts e done b n = let q : None ≡ Some (list ts) = sym n ∙ ap (as_kind kinds.List) e in cc
+refused_when_opened (context.Unmarked p) kinds.Map ps ts e done b n =
     let m : Pairing ts = pairing ts (sym (paired-even ps ts e) ∙ done) in
     let q : None ≡ Some (map m.pairs) = sym n ∙ ap (as_kind kinds.Map) e ∙ ap as_map m.are in cc
-refused_when_opened (context.Plain p) (kinds.Variant i) ps ts e done b n = let q : None ≡ Some (variant i (list ts)) = sym n ∙ ap (as_kind (kinds.Variant i)) e in cc
-refused_when_opened (context.Plain p) (kinds.NewtypeVariant i) ps ts e done b n = absurd (one_variant i ps ts e done n)
+refused_when_opened (context.Unmarked p) (kinds.Variant i) ps ts e done b n = let q : None ≡ Some (variant i (list ts)) = sym n ∙ ap (as_kind (kinds.Variant i)) e in cc
+refused_when_opened (context.Unmarked p) (kinds.NewtypeVariant i) ps ts e done b n = absurd (one_variant i ps ts e done n)
 refused_when_opened (context.Array p) kinds.List ps ts e done b n = let q : None ≡ Some (array ts) = sym n ∙ ap (λ o. with_marker marker.Array (as_kind kinds.List o)) e in cc
 refused_when_opened (context.Array p) kinds.Map ps ts e done b n = refl
 refused_when_opened (context.Array p) (kinds.Variant i) ps ts e done b n = refl

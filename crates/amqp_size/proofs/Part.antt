@@ -63,14 +63,14 @@ more_one true (more v ts) t h s =
     both (same_constructor (constructor v) (constructor v)) (each_constructor (constructor v) (join ts (more t no_trees))) mine
     (each-join (constructor v) ts (more t no_trees) ∙ both (each_constructor (constructor v) ts) (same_constructor (constructor v) (constructor t) && true) others (both (same_constructor (constructor v) (constructor t)) true new refl))
 
-opens_same : (arr : Bool) (ts : Trees) (q : Position) → constructor_len_in arr (context.Plain (inner_position_of arr ts)) (context.Plain q) ≡ constructor_len (inner_position_of arr ts) q
+opens_same : (arr : Bool) (ts : Trees) (q : Position) → constructor_len_in arr (context.Unmarked (inner_position_of arr ts)) (context.Unmarked q) ≡ constructor_len (inner_position_of arr ts) q
 opens_same false ts q = refl
 opens_same true ts q = refl
 
-new_inner : (arr : Bool) (ts : Trees) (t : Tree) (old after : Context) → one_in arr ts ≡ true → old ≡ context.Plain (inner_position_of arr ts) → after ≡ context.Plain (next (inner_position_of arr ts) t) →
-    (if arr then after else old) ≡ context.Plain (inner_position_of arr (join ts (more t no_trees)))
+new_inner : (arr : Bool) (ts : Trees) (t : Tree) (old after : Context) → one_in arr ts ≡ true → old ≡ context.Unmarked (inner_position_of arr ts) → after ≡ context.Unmarked (next (inner_position_of arr ts) t) →
+    (if arr then after else old) ≡ context.Unmarked (inner_position_of arr (join ts (more t no_trees)))
 new_inner false ts t old after h e q = e
-new_inner true ts t old after h e q = q ∙ ap context.Plain (next_inner true ts t h)
+new_inner true ts t old after h e q = q ∙ ap context.Unmarked (next_inner true ts t h)
 
 -- What is added to the total size.
 added : (start : SizeSerializer) (kind : CompoundKind) (compound : OpenCompound) (ps : List (Option Tree)) (h : HoldsGathered start kind compound ps) (t : Tree) (size : ℕ) (after : Context) → Counted (inner_position_of (is_array compound.resolved_kind) h.ts) t size after →
@@ -81,8 +81,8 @@ added start kind compound ps h t size after k =
     let i = inner_position_of arr h.ts in
     let len : size ≡ length (form i t) = k.len ∙ extent_inner arr h.ts t in
     let opened : constructor_len_in arr compound.inner_context after ≡ constructor_len i (next i t) =
-    ap (λ u. constructor_len_in arr u after) h.fed.inner_context ∙ ap (λ u. constructor_len_in arr (context.Plain i) u) k.position ∙ opens_same arr h.ts (next i t) in
-    let sum = h.fed.sum in
+    ap (λ u. constructor_len_in arr u after) h.accepted.inner_context ∙ ap (λ u. constructor_len_in arr (context.Unmarked i) u) k.position ∙ opens_same arr h.ts (next i t) in
+    let sum = h.accepted.sum in
     omega arith
 
 -- A part that is accepted.
@@ -98,7 +98,7 @@ taken_part start kind compound new ps h t size after k a b d e few f was small =
     let us = join ts (more t no_trees) in
     let c : is_array new.resolved_kind ≡ arr = ap is_array b in
     let total = added start kind compound ps h t size after k in
-    let all = body_bytes-join arr ts t no_trees h.fed.one in
+    let all = body_bytes-join arr ts t no_trees h.accepted.one in
     let nought = nothing_after arr in
     let sum : new.sum ≡ length (body_bytes arr us) = omega arith in
     record {
@@ -110,19 +110,19 @@ taken_part start kind compound new ps h t size after k a b d e few f was small =
       back = λ odd qs q e. record {
         us = ts;
         trees = ap all_trees (sym (last_off ps qs (Some t) q e)) ∙ h.trees;
-        sum = was ∙ h.fed.sum ∙ sym (ap (λ x. length (body_bytes x ts)) c);
+        sum = was ∙ h.accepted.sum ∙ sym (ap (λ x. length (body_bytes x ts)) c);
       };
-      fed = record {
+      accepted = record {
         sum = sum ∙ sym (ap (λ x. length (body_bytes x us)) c);
         fits_sum = le_true new.sum 4294967291 (subst (λ m. new.sum ≤ m) (gathered_limit new.resolved_kind (ap is_gathered b ∙ h.gathered)) small);
-        counted = e ∙ more_counted arr ts t compound.count h.fed.counted ∙ sym (ap (λ x. counts x us) c);
+        counted = e ∙ more_counted arr ts t compound.count h.accepted.counted ∙ sym (ap (λ x. counts x us) c);
         few = le_true new.count 4294967295 few;
-        inner_context = f ∙ new_inner arr ts t compound.inner_context after h.fed.one h.fed.inner_context k.position ∙ sym (ap (λ x. context.Plain (inner_position_of x us)) c);
-        uniform_arrays_parts = uniform_arrays-join ts (more t no_trees) ∙ both (uniform_arrays_each ts) (uniform_arrays t && true) h.fed.uniform_arrays_parts (both (uniform_arrays t) true k.uniform_arrays_it refl);
-        within_limits_parts = within_limits-join ts (more t no_trees) ∙ both (within_limits_each ts) (within_limits t && true) h.fed.within_limits_parts (both (within_limits t) true (sym (within_inner arr ts t) ∙ k.within_limits_it) refl);
-        inside_parts = inside-join ts (more t no_trees) ∙ both (inside_each ts) (inside t && true) h.fed.inside_parts (both (inside t) true (suited_inside arr ts t h.fed.one k.suited) refl);
-        one = ap (λ x. one_in x us) c ∙ more_one arr ts t h.fed.one k.suited;
-        ranged_parts = ranged-join ts (more t no_trees) h.fed.ranged_parts (k.ranged, tt);
+        inner_context = f ∙ new_inner arr ts t compound.inner_context after h.accepted.one h.accepted.inner_context k.position ∙ sym (ap (λ x. context.Unmarked (inner_position_of x us)) c);
+        uniform_arrays_parts = uniform_arrays-join ts (more t no_trees) ∙ both (uniform_arrays_each ts) (uniform_arrays t && true) h.accepted.uniform_arrays_parts (both (uniform_arrays t) true k.uniform_arrays_it refl);
+        within_limits_parts = within_limits-join ts (more t no_trees) ∙ both (within_limits_each ts) (within_limits t && true) h.accepted.within_limits_parts (both (within_limits t) true (sym (within_inner arr ts t) ∙ k.within_limits_it) refl);
+        inside_parts = inside-join ts (more t no_trees) ∙ both (inside_each ts) (inside t && true) h.accepted.inside_parts (both (inside t) true (suited_inside arr ts t h.accepted.one k.suited) refl);
+        one = ap (λ x. one_in x us) c ∙ more_one arr ts t h.accepted.one k.suited;
+        ranged_parts = ranged-join ts (more t no_trees) h.accepted.ranged_parts (k.ranged, tt);
       };
     }
 
@@ -133,16 +133,16 @@ pub end_taken : (start : SizeSerializer) (kind : CompoundKind) (compound new : O
     MatchResult res (λ _. (new.sum ≡ size + constructor_len_in (is_array compound.resolved_kind) compound.inner_context after + compound.sum) × ((new.count ≡ if is_array compound.resolved_kind then compound.count + 1 else compound.count) × (new.inner_context ≡ if is_array compound.resolved_kind then after else compound.inner_context)))
     (λ e. (e ≡ error.TooLong) × PassesLimit (is_array compound.resolved_kind) compound.count (size + constructor_len_in (is_array compound.resolved_kind) compound.inner_context after + compound.sum)) →
     MatchResult res (λ _. HoldsGathered start kind new (ps ++ (p ∷ [])))
-    (λ e. (others : List (Option Tree)) → AtPosition (position_of start.context) (meant start.context (tree_of_parts kind (ps ++ (p ∷ others)))) (Err e) (context.Plain (without_prefix compound.position)))
+    (λ e. (others : List (Option Tree)) → AtPosition (position_of start.context) (meant start.context (tree_of_parts kind (ps ++ (p ∷ others)))) (Err e) (context.Unmarked (without_prefix compound.position)))
 end_taken start kind compound new ps h None size after r a b few small res was same m = absurd r
 end_taken start kind compound new ps h (Some t) size after r a b few small (Ok u) was same m =
-    taken_part start kind compound new ps h t size after r a b m.0 m.1.0 (few (is_le compound.count 4294967295 h.fed.few)) m.1.1 was small
+    taken_part start kind compound new ps h t size after r a b m.0 m.1.0 (few (is_le compound.count 4294967295 h.accepted.few)) m.1.1 was small
 end_taken start kind compound new ps h (Some t) size after r a b few small (Err e) was same m = λ others.
-    subst (λ (x : SizeError). AtPosition (position_of start.context) (meant start.context (tree_of_parts kind (ps ++ (Some t ∷ others)))) (Err x) (context.Plain (without_prefix compound.position))) (sym m.0)
+    subst (λ (x : SizeError). AtPosition (position_of start.context) (meant start.context (tree_of_parts kind (ps ++ (Some t ∷ others)))) (Err x) (context.Unmarked (without_prefix compound.position))) (sym m.0)
     (over_part start kind compound ps h t (subst (λ n. PassesLimit (is_array compound.resolved_kind) compound.count n) (added start kind compound ps h t size after r) m.1) others)
 
 no_array : (u : Context) → is_array (resolved_kind_of u kinds.Map) ≡ false
-no_array (context.Plain p) = refl
+no_array (context.Unmarked p) = refl
 no_array (context.Array p) = refl
 no_array (context.Transparent p) = refl
 no_array (context.Scalar m p) = refl
@@ -170,7 +170,7 @@ undone start compound new ps p h even a b d e f small =
     let c : is_array new.resolved_kind ≡ is_array compound.resolved_kind = ap is_array b in
     let now : is_array new.resolved_kind ≡ false = c ∙ plain in
     let trees : joined (Some was.us) (prepend p (Some no_trees)) ≡ Some h.ts = sym (ap (λ o. joined o (prepend p (Some no_trees))) was.trees) ∙ sym (all_trees-append ps (p ∷ [])) ∙ h.trees in
-    let less = one_less was.us h.ts p trees h.fed.uniform_arrays_parts h.fed.within_limits_parts h.fed.inside_parts h.fed.ranged_parts in
+    let less = one_less was.us h.ts p trees h.accepted.uniform_arrays_parts h.accepted.within_limits_parts h.accepted.inside_parts h.accepted.ranged_parts in
     record {
       ts = was.us;
       trees = was.trees;
@@ -178,12 +178,12 @@ undone start compound new ps p h even a b d e f small =
       resolved_kind = b ∙ h.resolved_kind;
       gathered = ap is_gathered b ∙ h.gathered;
       back = λ odd_now. absurd (both_ways (sym even ∙ odd_now));
-      fed = record {
+      accepted = record {
         sum = d ∙ was.sum ∙ ap (λ x. length (body_bytes x was.us)) (sym c);
         fits_sum = le_true new.sum 4294967291 (subst (λ m. new.sum ≤ m) (gathered_limit new.resolved_kind (ap is_gathered b ∙ h.gathered)) small);
-        counted = e ∙ h.fed.counted ∙ ap (λ x. counts x h.ts) plain ∙ ap (λ x. counts x was.us) (sym now);
-        few = ap (λ n. nat_le n 4294967295) e ∙ h.fed.few;
-        inner_context = f ∙ h.fed.inner_context ∙ ap (λ x. context.Plain (inner_position_of x h.ts)) plain ∙ ap (λ x. context.Plain (inner_position_of x was.us)) (sym now);
+        counted = e ∙ h.accepted.counted ∙ ap (λ x. counts x h.ts) plain ∙ ap (λ x. counts x was.us) (sym now);
+        few = ap (λ n. nat_le n 4294967295) e ∙ h.accepted.few;
+        inner_context = f ∙ h.accepted.inner_context ∙ ap (λ x. context.Unmarked (inner_position_of x h.ts)) plain ∙ ap (λ x. context.Unmarked (inner_position_of x was.us)) (sym now);
         uniform_arrays_parts = less.0;
         within_limits_parts = less.1.0;
         inside_parts = less.1.1.0;

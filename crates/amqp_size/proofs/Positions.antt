@@ -66,7 +66,7 @@ extent_inner true no_trees t = refl
 extent_inner true (more v ts) t = extent_element (constructor v) t
 
 pub meant_none : (u : Context) → meant u None ≡ None
-meant_none (context.Plain p) = refl
+meant_none (context.Unmarked p) = refl
 meant_none (context.Array p) = refl
 meant_none (context.Transparent p) = refl
 meant_none (context.Scalar m p) = refl
@@ -78,7 +78,7 @@ refused-none p t error.InvalidValue h = tt
 refused-none p t e h = absurd h
 
 -- Every permitted error is also permitted if there is no tree, and resets the serializer.
-pub refusal : (p : Position) (o : Option Tree) (e : SizeError) (after : Context) → AtPosition p o (Err e) after → refuses_none e × (after ≡ context.Plain (without_prefix p))
+pub refusal : (p : Position) (o : Option Tree) (e : SizeError) (after : Context) → AtPosition p o (Err e) after → refuses_none e × (after ≡ context.Unmarked (without_prefix p))
 refusal p None e after h = h
 refusal p (Some t) e after h = (refused-none p t e h.0, h.1)
 

@@ -19,7 +19,7 @@ use Rattle.amqp_size.specs.declared.serializer.SizeSerializer.{SizeSerializer}
 use Rattle.amqp_size.specs.declared.open_compound.OpenCompound.{OpenCompound}
 use Rattle.amqp_size.proofs.Joined.{body_bytes-join, some_con}
 use Rattle.amqp_size.proofs.Positions.{within_inner, refused-none}
-use Rattle.amqp_size.proofs.Spoil.{bad_in, with_rest}
+use Rattle.amqp_size.proofs.Unwritable.{bad_in, with_rest}
 
 not_some : (o d : Option ℕ) → is_some o ≡ false → same_constructor o d ≡ false
 not_some None d h = refl
@@ -77,14 +77,14 @@ over_bad arr ts t us n o m h = elim h [
 -- A part that fails.
 pub refused_part : (start : SizeSerializer) (kind : CompoundKind) (compound : OpenCompound) (ps : List (Option Tree)) (h : HoldsGathered start kind compound ps) (p : Option Tree) (e : SizeError) (after : Context) →
     AtPosition (inner_position_of (is_array compound.resolved_kind) h.ts) p (Err e) after → (others : List (Option Tree)) →
-    AtPosition (position_of start.context) (meant start.context (tree_of_parts kind (ps ++ (p ∷ others)))) (Err e) (context.Plain (without_prefix compound.position))
+    AtPosition (position_of start.context) (meant start.context (tree_of_parts kind (ps ++ (p ∷ others)))) (Err e) (context.Unmarked (without_prefix compound.position))
 refused_part start kind compound ps h None e after r others = with_rest start kind compound ps h None e r.0 (λ t us q. absurd (none-some t q)) others
   where
     none-some : (t : Tree) → None ≡ Some t → ⊥
     none-some t q = cc
 refused_part start kind compound ps h (Some t) e after r others =
     with_rest start kind compound ps h (Some t) e (refused-none (inner_position_of (is_array compound.resolved_kind) h.ts) t e r.0)
-    (λ v us q. subst (λ x. bad_in (is_array compound.resolved_kind) (join h.ts (more x us)) e) (same t v q) (part_bad (is_array compound.resolved_kind) h.ts t us e h.fed.one r.0)) others
+    (λ v us q. subst (λ x. bad_in (is_array compound.resolved_kind) (join h.ts (more x us)) e) (same t v q) (part_bad (is_array compound.resolved_kind) h.ts t us e h.accepted.one r.0)) others
   where
     same : (t v : Tree) → Some t ≡ Some v → t ≡ v
     same t v q = cc
@@ -93,11 +93,11 @@ refused_part start kind compound ps h (Some t) e after r others =
 pub over_part : (start : SizeSerializer) (kind : CompoundKind) (compound : OpenCompound) (ps : List (Option Tree)) (h : HoldsGathered start kind compound ps) (t : Tree) →
     PassesLimit (is_array compound.resolved_kind) compound.count (length (form (inner_position_of (is_array compound.resolved_kind) h.ts) t) + constructor_len (inner_position_of (is_array compound.resolved_kind) h.ts) (next (inner_position_of (is_array compound.resolved_kind) h.ts) t) + length (body_bytes (is_array compound.resolved_kind) h.ts)) →
     (others : List (Option Tree)) →
-    AtPosition (position_of start.context) (meant start.context (tree_of_parts kind (ps ++ (Some t ∷ others)))) (Err error.TooLong) (context.Plain (without_prefix compound.position))
+    AtPosition (position_of start.context) (meant start.context (tree_of_parts kind (ps ++ (Some t ∷ others)))) (Err error.TooLong) (context.Unmarked (without_prefix compound.position))
 over_part start kind compound ps h t past others =
     let arr = is_array compound.resolved_kind in
     with_rest start kind compound ps h (Some t) error.TooLong tt
-    (λ v us q. subst (λ x. bad_in arr (join h.ts (more x us)) error.TooLong) (same t v q) (over_bad arr h.ts t us compound.count h.fed.one h.fed.counted past)) others
+    (λ v us q. subst (λ x. bad_in arr (join h.ts (more x us)) error.TooLong) (same t v q) (over_bad arr h.ts t us compound.count h.accepted.one h.accepted.counted past)) others
   where
     same : (t v : Tree) → Some t ≡ Some v → t ≡ v
     same t v q = cc

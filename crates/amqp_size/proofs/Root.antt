@@ -11,10 +11,10 @@ use Rattle.amqp_size.specs.Refused.{told}
 use Rattle.amqp_size.specs.SizeSerializer.{AtPosition, SizePermits}
 use Rattle.amqp_size.specs.WholePosition.{Root}
 use Rattle.amqp_size.specs.WholeContext.{Context}
-use Rattle.amqp_size.specs.WholeContext.{Plain}
+use Rattle.amqp_size.specs.WholeContext.{Unmarked}
 use Rattle.amqp_size.specs.declared.serializer.SizeSerializer.{SizeSerializer}
 
-root_size : (o : Option Tree) (r : Result ℕ SizeError) (after : Context) → AtPosition Root o r after → IsSizeOf o (told r) × (after ≡ Plain Root)
+root_size : (o : Option Tree) (r : Result ℕ SizeError) (after : Context) → AtPosition Root o r after → IsSizeOf o (told r) × (after ≡ Unmarked Root)
 root_size None (Ok n) after h = absurd h
 root_size None (Err size_error.TooLong) after h = h
 root_size None (Err size_error.InvalidValue) after h = h
@@ -24,9 +24,9 @@ root_size (Some t) (Err size_error.TooLong) after h = h
 root_size (Some t) (Err size_error.InvalidValue) after h = h
 root_size (Some t) (Err e) after h = absurd h.0
 
-pub at_root : (s : SizeSerializer) (o : Option Tree) (r : Result ℕ SizeError) (after : SizeSerializer) → s.context ≡ Plain Root → SizePermits s o r after → AtPosition Root o r after.context
+pub at_root : (s : SizeSerializer) (o : Option Tree) (r : Result ℕ SizeError) (after : SizeSerializer) → s.context ≡ Unmarked Root → SizePermits s o r after → AtPosition Root o r after.context
 at_root s o r after q h = subst (λ u. AtPosition (position_of u) (meant u o) r after.context) q h
 
 -- Afterwards the serializer is at the root again.
-pub fresh : (s : SizeSerializer) (o : Option Tree) (r : Result ℕ SizeError) (after : SizeSerializer) → s.context ≡ Plain Root → SizePermits s o r after → after.context ≡ Plain Root
+pub fresh : (s : SizeSerializer) (o : Option Tree) (r : Result ℕ SizeError) (after : SizeSerializer) → s.context ≡ Unmarked Root → SizePermits s o r after → after.context ≡ Unmarked Root
 fresh s o r after q h = (root_size o r after.context (at_root s o r after q h)).1

@@ -22,7 +22,7 @@ is_alone (position.Value h b) = false
 is_alone p = true
 
 abbrev alone : Context → Bool
-alone (context.Plain p) = is_alone p
+alone (context.Unmarked p) = is_alone p
 alone u = false
 
 stand_alone : (b : BasePosition) → is_alone (base_position b) ≡ true
@@ -52,7 +52,7 @@ same_position kept.Descriptor h k e = refl
 same_position (kept.Value b) h k e = cc
 
 same_context : (u : KeptContext) (h k : ℕ) → alone (context_at u h) ≡ true → context_at u k ≡ context_at u h
-same_context (kept_context.Plain p) h k e = ap context.Plain (same_position p h k e)
+same_context (kept_context.Unmarked p) h k e = ap context.Unmarked (same_position p h k e)
 same_context (kept_context.Array p) h k e = cc
 same_context (kept_context.Transparent p) h k e = cc
 same_context (kept_context.Scalar m p) h k e = cc

@@ -20,10 +20,10 @@ use Rattle.amqp_size.proofs.Whole.{stands_none}
 
 pub single_kind : (u : Context) (k : CompoundKind) → resolved_kind_of u k ≡ resolved_kinds.Single → k ≡ kinds.Single
 single_kind u kinds.Single h = refl
-single_kind (context.Plain p) kinds.List h = cc
-single_kind (context.Plain p) kinds.Map h = cc
-single_kind (context.Plain p) (kinds.Variant i) h = cc
-single_kind (context.Plain p) (kinds.NewtypeVariant i) h = cc
+single_kind (context.Unmarked p) kinds.List h = cc
+single_kind (context.Unmarked p) kinds.Map h = cc
+single_kind (context.Unmarked p) (kinds.Variant i) h = cc
+single_kind (context.Unmarked p) (kinds.NewtypeVariant i) h = cc
 single_kind (context.Array p) kinds.List h = cc
 single_kind (context.Array p) kinds.Map h = cc
 single_kind (context.Array p) (kinds.Variant i) h = cc
@@ -54,28 +54,28 @@ whole_two p q ps = two p q (all_trees ps)
 
 -- The errors that are permitted if there is no tree.
 no_whole : (start : SizeSerializer) (compound : OpenCompound) (kind : CompoundKind) (qs : List (Option Tree)) (e : SizeError) → without_prefix compound.position ≡ without_prefix (position_of start.context) → kind ≡ kinds.Single → tree_of_parts kinds.Single qs ≡ None → refuses_none e →
-    AtPosition (position_of start.context) (meant start.context (tree_of_parts kind qs)) (Err e) (context.Plain (without_prefix compound.position))
+    AtPosition (position_of start.context) (meant start.context (tree_of_parts kind qs)) (Err e) (context.Unmarked (without_prefix compound.position))
 no_whole start compound kind qs e a k q r =
-    stands_none start.context (position_of start.context) (tree_of_parts kind qs) (Err e) (context.Plain (without_prefix compound.position)) refl
-    (ap (λ k. meant start.context (tree_of_parts k qs)) k ∙ ap (meant start.context) q ∙ meant_none start.context) (r, ap context.Plain a)
+    stands_none start.context (position_of start.context) (tree_of_parts kind qs) (Err e) (context.Unmarked (without_prefix compound.position)) refl
+    (ap (λ k. meant start.context (tree_of_parts k qs)) k ∙ ap (meant start.context) q ∙ meant_none start.context) (r, ap context.Unmarked a)
 
 -- A value that fails.
 pub refused_single : (start : SizeSerializer) (kind : CompoundKind) (compound : OpenCompound) (ps : List (Option Tree)) → HoldsSingle start kind compound ps → (p : Option Tree) (e : SizeError) (after : Context) →
     AtPosition (position_of compound.inner_context) (meant compound.inner_context p) (Err e) after → (others : List (Option Tree)) →
-    AtPosition (position_of start.context) (meant start.context (tree_of_parts kind (ps ++ (p ∷ others)))) (Err e) (context.Plain (without_prefix compound.position))
+    AtPosition (position_of start.context) (meant start.context (tree_of_parts kind (ps ++ (p ∷ others)))) (Err e) (context.Unmarked (without_prefix compound.position))
 refused_single start kind compound [] h p e after r [] =
     let here : AtPosition (position_of start.context) (meant start.context p) (Err e) after = subst (λ u. AtPosition (position_of u) (meant u p) (Err e) after) h.parts.1 r in
     let left = refusal (position_of start.context) (meant start.context p) e after here in
-    subst (λ (k : CompoundKind). AtPosition (position_of start.context) (meant start.context (tree_of_parts k (p ∷ []))) (Err e) (context.Plain (without_prefix compound.position))) (sym h.kind_is)
-    (subst (λ o. AtPosition (position_of start.context) (meant start.context o) (Err e) (context.Plain (without_prefix compound.position))) (sym (whole_single p))
-    (subst (λ a. AtPosition (position_of start.context) (meant start.context p) (Err e) a) (left.1 ∙ ap context.Plain (sym h.position)) here))
+    subst (λ (k : CompoundKind). AtPosition (position_of start.context) (meant start.context (tree_of_parts k (p ∷ []))) (Err e) (context.Unmarked (without_prefix compound.position))) (sym h.kind_is)
+    (subst (λ o. AtPosition (position_of start.context) (meant start.context o) (Err e) (context.Unmarked (without_prefix compound.position))) (sym (whole_single p))
+    (subst (λ a. AtPosition (position_of start.context) (meant start.context p) (Err e) a) (left.1 ∙ ap context.Unmarked (sym h.position)) here))
 refused_single start kind compound [] h p e after r (q ∷ qs) = no_whole start compound kind (p ∷ (q ∷ qs)) e h.position h.kind_is (whole_two p q qs) (refusal (position_of compound.inner_context) (meant compound.inner_context p) e after r).0
 refused_single start kind compound (v ∷ []) h p e after r others = no_whole start compound kind (v ∷ (p ∷ others)) e h.position h.kind_is (whole_two v p others) (refusal (position_of compound.inner_context) (meant compound.inner_context p) e after r).0
 refused_single start kind compound (v ∷ (w ∷ ps)) h p e after r others = absurd h.parts
 
 -- A second value.
 pub second_single : (start : SizeSerializer) (kind : CompoundKind) (compound : OpenCompound) (ps : List (Option Tree)) → HoldsSingle start kind compound ps → 1 ≤ compound.count → (p : Option Tree) (others : List (Option Tree)) →
-    AtPosition (position_of start.context) (meant start.context (tree_of_parts kind (ps ++ (p ∷ others)))) (Err error.InvalidValue) (context.Plain (without_prefix compound.position))
+    AtPosition (position_of start.context) (meant start.context (tree_of_parts kind (ps ++ (p ∷ others)))) (Err error.InvalidValue) (context.Unmarked (without_prefix compound.position))
 second_single start kind compound [] h some p others = absurd (none h.parts.0 some)
   where
     none : compound.count ≡ 0 → 1 ≤ compound.count → ⊥

@@ -26,12 +26,12 @@ placed_inside (transparent ts) h = cc
 pub whole_at : (u : Context) (t : Tree) (n : ℕ) → TakesWhole u
     → (within_limits t ≡ true) × ((uniform_arrays t ≡ true) × ((inside t ≡ true) × (n ≡ length (encoding t)))) → IsRanged t
     → AtPosition (position_of u) (meant u (Some t)) (Ok n) u
-whole_at (context.Plain Root) t n k h g = record { within_limits_it = h.0; uniform_arrays_it = h.1.0; suited = placed_inside t h.1.1.0; len = h.1.1.1; position = refl; ranged = g }
-whole_at (context.Plain InCompound) t n k h g = record { within_limits_it = h.0; uniform_arrays_it = h.1.0; suited = h.1.1.0; len = h.1.1.1; position = refl; ranged = g }
-whole_at (context.Plain FirstElement) t n k h g = absurd k
-whole_at (context.Plain (OtherElement c)) t n k h g = absurd k
-whole_at (context.Plain Descriptor) t n k h g = absurd k
-whole_at (context.Plain (Value m b)) t n k h g = absurd k
+whole_at (context.Unmarked Root) t n k h g = record { within_limits_it = h.0; uniform_arrays_it = h.1.0; suited = placed_inside t h.1.1.0; len = h.1.1.1; position = refl; ranged = g }
+whole_at (context.Unmarked InCompound) t n k h g = record { within_limits_it = h.0; uniform_arrays_it = h.1.0; suited = h.1.1.0; len = h.1.1.1; position = refl; ranged = g }
+whole_at (context.Unmarked FirstElement) t n k h g = absurd k
+whole_at (context.Unmarked (OtherElement c)) t n k h g = absurd k
+whole_at (context.Unmarked Descriptor) t n k h g = absurd k
+whole_at (context.Unmarked (Value m b)) t n k h g = absurd k
 whole_at (context.Array p) t n k h g = absurd k
 whole_at (context.Transparent p) t n k h g = absurd k
 whole_at (context.Scalar m p) t n k h g = absurd k

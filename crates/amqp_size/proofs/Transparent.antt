@@ -30,10 +30,10 @@ placed-join (more t ts) us = ap (λ b. placed t && b) (placed-join ts us) ∙ sy
 
 pub transparent_shape : (u : Context) (k : CompoundKind) → resolved_kind_of u k ≡ resolved_kind.Transparent → (u ≡ context.Transparent (position_of u)) × (k ≡ kinds.List)
 transparent_shape u kinds.Single h = cc
-transparent_shape (context.Plain p) kinds.List h = cc
-transparent_shape (context.Plain p) kinds.Map h = cc
-transparent_shape (context.Plain p) (kinds.Variant i) h = cc
-transparent_shape (context.Plain p) (kinds.NewtypeVariant i) h = cc
+transparent_shape (context.Unmarked p) kinds.List h = cc
+transparent_shape (context.Unmarked p) kinds.Map h = cc
+transparent_shape (context.Unmarked p) (kinds.Variant i) h = cc
+transparent_shape (context.Unmarked p) (kinds.NewtypeVariant i) h = cc
 transparent_shape (context.Array p) kinds.List h = cc
 transparent_shape (context.Array p) kinds.Map h = cc
 transparent_shape (context.Array p) (kinds.Variant i) h = cc
@@ -97,23 +97,23 @@ bad_each ws error.TooLong = (is_length (length (encoding_each ws)) && within_lim
 bad_each ws error.InvalidValue = (uniform_arrays_each ws && placed_each ws) ≡ false
 bad_each ws e = ⊥
 
-pub spoiled_transparent : (p : Position) (ws : Trees) (e : SizeError) → bad_each ws e → AtPosition p (Some (transparent ws)) (Err e) (context.Plain (without_prefix p))
-spoiled_transparent p ws error.TooLong h = (long_at p (transparent ws) h, refl)
-spoiled_transparent p ws error.InvalidValue h = elim (root_alone p ws) [
+pub unwritable_transparent : (p : Position) (ws : Trees) (e : SizeError) → bad_each ws e → AtPosition p (Some (transparent ws)) (Err e) (context.Unmarked (without_prefix p))
+unwritable_transparent p ws error.TooLong h = (long_at p (transparent ws) h, refl)
+unwritable_transparent p ws error.InvalidValue h = elim (root_alone p ws) [
   | inl q ↦ (subst (λ x. (uniform_arrays_each ws && suits x (transparent ws)) ≡ false) (sym q) h, refl)
   | inr s ↦ (right_false (uniform_arrays_each ws) (suits p (transparent ws)) s, refl)
 ]
-spoiled_transparent p ws e h = absurd h
+unwritable_transparent p ws e h = absurd h
 
 go : (start : SizeSerializer) (kind : CompoundKind) (compound : OpenCompound) (ps : List (Option Tree)) → HoldsTransparent start kind compound ps → (qs : List (Option Tree)) (o : Option Trees) → all_trees qs ≡ o → (e : SizeError) → refuses_none e → ((ws : Trees) → o ≡ Some ws → bad_each ws e) →
-    AtPosition (position_of start.context) (meant start.context (tree_of_parts kind qs)) (Err e) (context.Plain (without_prefix (position_of start.context)))
+    AtPosition (position_of start.context) (meant start.context (tree_of_parts kind qs)) (Err e) (context.Unmarked (without_prefix (position_of start.context)))
 unfolding tree_of_parts
 go start kind compound ps h qs None q e r bad =
-    stands_none start.context (position_of start.context) (tree_of_parts kind qs) (Err e) (context.Plain (without_prefix (position_of start.context))) refl
+    stands_none start.context (position_of start.context) (tree_of_parts kind qs) (Err e) (context.Unmarked (without_prefix (position_of start.context))) refl
     (ap (λ k. meant start.context (as_kind k (all_trees qs))) h.kind_is ∙ ap (λ o. meant start.context (as_kind kinds.List o)) q ∙ meant_none start.context) (r, refl)
 go start kind compound ps h qs (Some ws) q e r bad =
-    stands start.context (position_of start.context) (tree_of_parts kind qs) (transparent ws) (Err e) (context.Plain (without_prefix (position_of start.context))) refl
-    (transparent_whole start kind compound ps h qs ws q) (spoiled_transparent (position_of start.context) ws e (bad ws refl))
+    stands start.context (position_of start.context) (tree_of_parts kind qs) (transparent ws) (Err e) (context.Unmarked (without_prefix (position_of start.context))) refl
+    (transparent_whole start kind compound ps h qs ws q) (unwritable_transparent (position_of start.context) ws e (bad ws refl))
 
 after : (ts : Trees) (p : Option Tree) (o : Option Trees) (ws : Trees) → joined (Some ts) (prepend p o) ≡ Some ws → (t : Tree) × ((us : Trees) × ((p ≡ Some t) × (ws ≡ join ts (more t us))))
 after ts None o ws q = cc
@@ -121,11 +121,11 @@ after ts (Some t) None ws q = cc
 after ts (Some t) (Some us) ws q = (t, (us, (refl, cc)))
 
 -- If the next element is invalid, every vector that continues with it may fail with the error.
-spoils : (start : SizeSerializer) (kind : CompoundKind) (compound : OpenCompound) (ps : List (Option Tree)) (h : HoldsTransparent start kind compound ps) (p : Option Tree) (e : SizeError) → refuses_none e → ((t : Tree) (us : Trees) → p ≡ Some t → bad_each (join h.ts (more t us)) e) →
-    (others : List (Option Tree)) → AtPosition (position_of start.context) (meant start.context (tree_of_parts kind (ps ++ (p ∷ others)))) (Err e) (context.Plain (without_prefix compound.position))
-spoils start kind compound ps h p e r bad others =
+unwritable_vector : (start : SizeSerializer) (kind : CompoundKind) (compound : OpenCompound) (ps : List (Option Tree)) (h : HoldsTransparent start kind compound ps) (p : Option Tree) (e : SizeError) → refuses_none e → ((t : Tree) (us : Trees) → p ≡ Some t → bad_each (join h.ts (more t us)) e) →
+    (others : List (Option Tree)) → AtPosition (position_of start.context) (meant start.context (tree_of_parts kind (ps ++ (p ∷ others)))) (Err e) (context.Unmarked (without_prefix compound.position))
+unwritable_vector start kind compound ps h p e r bad others =
     let trees : all_trees (ps ++ (p ∷ others)) ≡ joined (Some h.ts) (prepend p (all_trees others)) = all_trees-append ps (p ∷ others) ∙ ap (λ o. joined o (prepend p (all_trees others))) h.trees in
-    subst (λ q. AtPosition (position_of start.context) (meant start.context (tree_of_parts kind (ps ++ (p ∷ others)))) (Err e) (context.Plain (without_prefix q))) (sym h.position)
+    subst (λ q. AtPosition (position_of start.context) (meant start.context (tree_of_parts kind (ps ++ (p ∷ others)))) (Err e) (context.Unmarked (without_prefix q))) (sym h.position)
     (go start kind compound ps h (ps ++ (p ∷ others)) (joined (Some h.ts) (prepend p (all_trees others))) trees e r
     (λ ws q. let a = after h.ts p (all_trees others) ws q in subst (λ x. bad_each x e) (sym a.1.1.1) (bad a.0 a.1.0 a.1.1.0)))
 
@@ -142,16 +142,16 @@ some_same : (t v : Tree) → Some t ≡ Some v → t ≡ v
 some_same t v q = cc
 
 pub refused_transparent : (start : SizeSerializer) (kind : CompoundKind) (compound : OpenCompound) (ps : List (Option Tree)) → HoldsTransparent start kind compound ps → (p : Option Tree) (e : SizeError) (after : Context) → AtPosition Root p (Err e) after →
-    (others : List (Option Tree)) → AtPosition (position_of start.context) (meant start.context (tree_of_parts kind (ps ++ (p ∷ others)))) (Err e) (context.Plain (without_prefix compound.position))
-refused_transparent start kind compound ps h None e after r others = spoils start kind compound ps h None e r.0 (λ t us q. cc) others
+    (others : List (Option Tree)) → AtPosition (position_of start.context) (meant start.context (tree_of_parts kind (ps ++ (p ∷ others)))) (Err e) (context.Unmarked (without_prefix compound.position))
+refused_transparent start kind compound ps h None e after r others = unwritable_vector start kind compound ps h None e r.0 (λ t us q. cc) others
 refused_transparent start kind compound ps h (Some t) e after r others =
     let none = refusal Root (Some t) e after r in
-    spoils start kind compound ps h (Some t) e none.0 (λ v us q. subst (λ x. bad_each (join h.ts (more x us)) e) (some_same t v q) (part_bad h.ts t us e r.0)) others
+    unwritable_vector start kind compound ps h (Some t) e none.0 (λ v us q. subst (λ x. bad_each (join h.ts (more x us)) e) (some_same t v q) (part_bad h.ts t us e r.0)) others
 
 pub over_transparent : (start : SizeSerializer) (kind : CompoundKind) (compound : OpenCompound) (ps : List (Option Tree)) → HoldsTransparent start kind compound ps → (t : Tree) (size : ℕ) → size ≡ length (encoding t) → 18446744073709551615 < size + compound.sum →
-    (others : List (Option Tree)) → AtPosition (position_of start.context) (meant start.context (tree_of_parts kind (ps ++ (Some t ∷ others)))) (Err error.TooLong) (context.Plain (without_prefix compound.position))
+    (others : List (Option Tree)) → AtPosition (position_of start.context) (meant start.context (tree_of_parts kind (ps ++ (Some t ∷ others)))) (Err error.TooLong) (context.Unmarked (without_prefix compound.position))
 over_transparent start kind compound ps h t size len past others =
-    spoils start kind compound ps h (Some t) error.TooLong tt (λ v us q. subst (λ x. bad_each (join h.ts (more x us)) error.TooLong) (some_same t v q) (too_long us)) others
+    unwritable_vector start kind compound ps h (Some t) error.TooLong tt (λ v us q. subst (λ x. bad_each (join h.ts (more x us)) error.TooLong) (some_same t v q) (too_long us)) others
   where
     too_long : (us : Trees) → bad_each (join h.ts (more t us)) error.TooLong
     too_long us =

@@ -16,7 +16,7 @@ use Rattle.amqp_ser.proofs.Bools.{both}
 use Rattle.amqp_ser.proofs.Pairing.{Pairing, pairing, paired-even}
 use Rattle.amqp_size.specs.Position.{position_of, meant, resolved_kind_of, is_array, the_marker}
 use Rattle.amqp_size.specs.SizeSerializer.{AtPosition, HoldsGathered, body_bytes}
-use Rattle.amqp_size.specs.Width.{map_width, list_width, uint_width}
+use Rattle.amqp_size.specs.Width.{map_form_len, list_form_len, uint_form_len}
 use Rattle.amqp_size.specs.WholePosition.{Position}
 use Rattle.amqp_size.specs.WholeContext.{Context}
 use Rattle.amqp_size.specs.WholeContext as context
@@ -34,12 +34,12 @@ stands u q o x r after a b h = subst (λ w. AtPosition w (meant u o) r after) (s
 pub stands_none : (u : Context) (q : Position) (o : Option Tree) (r : Result ℕ SizeError) (after : Context) → position_of u ≡ q → meant u o ≡ None → AtPosition q None r after → AtPosition (position_of u) (meant u o) r after
 stands_none u q o r after a b h = subst (λ w. AtPosition w (meant u o) r after) (sym a) (subst (λ w. AtPosition q w r after) (sym b) h)
 
-pub map_shape : (u : Context) (k : CompoundKind) → resolved_kind_of u k ≡ resolved_kind.Map → (u ≡ context.Plain (position_of u)) × (k ≡ kinds.Map)
-map_shape (context.Plain p) kinds.List h = cc
-map_shape (context.Plain p) kinds.Map h = (refl, refl)
-map_shape (context.Plain p) (kinds.Variant i) h = cc
-map_shape (context.Plain p) (kinds.NewtypeVariant i) h = cc
-map_shape (context.Plain p) kinds.Single h = cc
+pub map_shape : (u : Context) (k : CompoundKind) → resolved_kind_of u k ≡ resolved_kind.Map → (u ≡ context.Unmarked (position_of u)) × (k ≡ kinds.Map)
+map_shape (context.Unmarked p) kinds.List h = cc
+map_shape (context.Unmarked p) kinds.Map h = (refl, refl)
+map_shape (context.Unmarked p) (kinds.Variant i) h = cc
+map_shape (context.Unmarked p) (kinds.NewtypeVariant i) h = cc
+map_shape (context.Unmarked p) kinds.Single h = cc
 map_shape (context.Array p) kinds.List h = cc
 map_shape (context.Array p) kinds.Map h = cc
 map_shape (context.Array p) (kinds.Variant i) h = cc
@@ -61,12 +61,12 @@ map_shape (context.Nothing p) (kinds.Variant i) h = cc
 map_shape (context.Nothing p) (kinds.NewtypeVariant i) h = cc
 map_shape (context.Nothing p) kinds.Single h = cc
 
-pub fields_shape : (i : ℕ) (u : Context) (k : CompoundKind) → resolved_kind_of u k ≡ resolved_kind.Variant i → (u ≡ context.Plain (position_of u)) × (k ≡ kinds.Variant i)
-fields_shape j (context.Plain p) kinds.List h = cc
-fields_shape j (context.Plain p) kinds.Map h = cc
-fields_shape j (context.Plain p) (kinds.Variant i) h = (refl, cc)
-fields_shape j (context.Plain p) (kinds.NewtypeVariant i) h = cc
-fields_shape j (context.Plain p) kinds.Single h = cc
+pub fields_shape : (i : ℕ) (u : Context) (k : CompoundKind) → resolved_kind_of u k ≡ resolved_kind.Variant i → (u ≡ context.Unmarked (position_of u)) × (k ≡ kinds.Variant i)
+fields_shape j (context.Unmarked p) kinds.List h = cc
+fields_shape j (context.Unmarked p) kinds.Map h = cc
+fields_shape j (context.Unmarked p) (kinds.Variant i) h = (refl, cc)
+fields_shape j (context.Unmarked p) (kinds.NewtypeVariant i) h = cc
+fields_shape j (context.Unmarked p) kinds.Single h = cc
 fields_shape j (context.Array p) kinds.List h = cc
 fields_shape j (context.Array p) kinds.Map h = cc
 fields_shape j (context.Array p) (kinds.Variant i) h = cc
@@ -152,11 +152,11 @@ no_scalar p m (kinds.NewtypeVariant i) (Some ts) h = as_variant_scalar m i (only
 no_scalar p m kinds.Single o h = cc
 
 pub refused_shape : (u : Context) (k : CompoundKind) (o : Option Trees) → resolved_kind_of u k ≡ resolved_kind.Refused → meant u (as_kind k o) ≡ None
-refused_shape (context.Plain p) kinds.List o h = cc
-refused_shape (context.Plain p) kinds.Map o h = cc
-refused_shape (context.Plain p) (kinds.Variant i) o h = cc
-refused_shape (context.Plain p) (kinds.NewtypeVariant i) o h = cc
-refused_shape (context.Plain p) kinds.Single o h = cc
+refused_shape (context.Unmarked p) kinds.List o h = cc
+refused_shape (context.Unmarked p) kinds.Map o h = cc
+refused_shape (context.Unmarked p) (kinds.Variant i) o h = cc
+refused_shape (context.Unmarked p) (kinds.NewtypeVariant i) o h = cc
+refused_shape (context.Unmarked p) kinds.Single o h = cc
 refused_shape (context.Array p) kinds.List o h = cc
 refused_shape (context.Array p) kinds.Map None h = refl
 refused_shape (context.Array p) kinds.Map (Some ts) h = no_array_map (in_pairs ts)
@@ -183,7 +183,7 @@ pub record MapEnd (start : SizeSerializer) (kind : CompoundKind) (compound : Ope
   pub within_limits_it : within_limits (map pairs) ≡ true
   pub uniform_arrays_it : uniform_arrays (map pairs) ≡ true
   pub inside_it : inside (map pairs) ≡ true
-  pub ordinary : length (encoding (map pairs)) ≡ map_width compound.sum
+  pub ordinary : length (encoding (map pairs)) ≡ map_form_len compound.sum
   pub wide : length (payload (map pairs)) ≡ compound.sum + 8
   pub ranged_it : HasRangedPairs pairs
 
@@ -196,16 +196,16 @@ map_end start kind compound ps h done s =
     let tree : tree_of_parts kind ps ≡ Some (map p.pairs) = ap (λ k. tree_of_parts k ps) inv.1 ∙ ap (as_kind kinds.Map) h.trees ∙ ap as_map p.are in
     let plain : meant start.context (tree_of_parts kind ps) ≡ tree_of_parts kind ps = ap (λ u. meant u (tree_of_parts kind ps)) inv.0 in
     let none_array : is_array compound.resolved_kind ≡ false = ap is_array s in
-    let sum : compound.sum ≡ length (encoding_pairs p.pairs) = h.fed.sum ∙ ap (λ b. length (body_bytes b h.ts)) none_array ∙ ap length (sym p.bytes) in
+    let sum : compound.sum ≡ length (encoding_pairs p.pairs) = h.accepted.sum ∙ ap (λ b. length (body_bytes b h.ts)) none_array ∙ ap length (sym p.bytes) in
     record {
       pairs = p.pairs;
       is = plain ∙ tree;
-      within_limits_it = both (fits (length (encoding_pairs p.pairs))) (within_limits_pairs p.pairs) (ap fits (sym sum) ∙ h.fed.fits_sum) (p.within_too ∙ h.fed.within_limits_parts);
-      uniform_arrays_it = p.alike_too ∙ h.fed.uniform_arrays_parts;
-      inside_it = p.inside_too ∙ h.fed.inside_parts;
-      ordinary = length-counted 0xc1 0xd1 (pair_count p.pairs * 2) (encoding_pairs p.pairs) ∙ ap map_width (sym sum);
+      within_limits_it = both (fits (length (encoding_pairs p.pairs))) (within_limits_pairs p.pairs) (ap fits (sym sum) ∙ h.accepted.fits_sum) (p.within_too ∙ h.accepted.within_limits_parts);
+      uniform_arrays_it = p.alike_too ∙ h.accepted.uniform_arrays_parts;
+      inside_it = p.inside_too ∙ h.accepted.inside_parts;
+      ordinary = length-counted 0xc1 0xd1 (pair_count p.pairs * 2) (encoding_pairs p.pairs) ∙ ap map_form_len (sym sum);
       wide = omega arith;
-      ranged_it = p.ranged_too h.fed.ranged_parts;
+      ranged_it = p.ranged_too h.accepted.ranged_parts;
     }
 
 -- A variant with fields that has ended.
@@ -215,24 +215,24 @@ pub record FieldsEnd (i : ℕ) (start : SizeSerializer) (kind : CompoundKind) (p
   pub within_limits_it : within_limits (list ts) ≡ true
   pub uniform_arrays_it : uniform_arrays (list ts) ≡ true
   pub inside_it : inside (list ts) ≡ true
-  pub bytes : length (scalar_form (uint i) ++ encoding (list ts)) ≡ uint_width i + size
+  pub bytes : length (scalar_form (uint i) ++ encoding (list ts)) ≡ uint_form_len i + size
   pub ranged_it : AreRanged ts
 
-pub fields_end : (i : ℕ) (start : SizeSerializer) (kind : CompoundKind) (compound : OpenCompound) (ps : List (Option Tree)) (size : ℕ) → HoldsGathered start kind compound ps → compound.resolved_kind ≡ resolved_kind.Variant i → size ≡ list_width compound.sum → FieldsEnd i start kind ps size
+pub fields_end : (i : ℕ) (start : SizeSerializer) (kind : CompoundKind) (compound : OpenCompound) (ps : List (Option Tree)) (size : ℕ) → HoldsGathered start kind compound ps → compound.resolved_kind ≡ resolved_kind.Variant i → size ≡ list_form_len compound.sum → FieldsEnd i start kind ps size
 unfolding tree_of_parts
 fields_end i start kind compound ps size h s e =
     let inv = fields_shape i start.context kind (sym h.resolved_kind ∙ s) in
     let tree : tree_of_parts kind ps ≡ Some (variant i (list h.ts)) = ap (λ k. tree_of_parts k ps) inv.1 ∙ ap (as_kind (kinds.Variant i)) h.trees in
     let plain : meant start.context (tree_of_parts kind ps) ≡ tree_of_parts kind ps = ap (λ u. meant u (tree_of_parts kind ps)) inv.0 in
     let none_array : is_array compound.resolved_kind ≡ false = ap is_array s in
-    let sum : compound.sum ≡ length (encoding_each h.ts) = h.fed.sum ∙ ap (λ b. length (body_bytes b h.ts)) none_array in
-    let len : size ≡ length (encoding (list h.ts)) = e ∙ ap list_width sum ∙ sym (length-list_form (count h.ts) (encoding_each h.ts)) in
+    let sum : compound.sum ≡ length (encoding_each h.ts) = h.accepted.sum ∙ ap (λ b. length (body_bytes b h.ts)) none_array in
+    let len : size ≡ length (encoding (list h.ts)) = e ∙ ap list_form_len sum ∙ sym (length-list_form (count h.ts) (encoding_each h.ts)) in
     record {
       ts = h.ts;
       is = plain ∙ tree;
-      within_limits_it = both (fits (length (encoding_each h.ts))) (within_limits_each h.ts) (ap fits (sym sum) ∙ h.fed.fits_sum) h.fed.within_limits_parts;
-      uniform_arrays_it = h.fed.uniform_arrays_parts;
-      inside_it = h.fed.inside_parts;
+      within_limits_it = both (fits (length (encoding_each h.ts))) (within_limits_each h.ts) (ap fits (sym sum) ∙ h.accepted.fits_sum) h.accepted.within_limits_parts;
+      uniform_arrays_it = h.accepted.uniform_arrays_parts;
+      inside_it = h.accepted.inside_parts;
       bytes = length-variant i (list h.ts) size len;
-      ranged_it = h.fed.ranged_parts;
+      ranged_it = h.accepted.ranged_parts;
     }

@@ -17,7 +17,7 @@ constructor_len p q = 0
 
 -- The same in an array. Other compounds have no constructor.
 abbrev pub constructor_len_in : Bool → Context → Context → ℕ
-constructor_len_in true (context.Plain p) (context.Plain q) = constructor_len p q
+constructor_len_in true (context.Unmarked p) (context.Unmarked q) = constructor_len p q
 constructor_len_in arr u v = 0
 
 -- One more part exceeds a limit.
@@ -26,8 +26,8 @@ PassesLimit array count sum = (4294967291 < sum) ⊎ ((array ≡ true) × (42949
 
 -- Why no value is accepted after a descriptor of this length.
 abbrev pub Undescribed : Context → ℕ → SizeError → Type 0
-Undescribed (context.Plain Descriptor) n e = e ≡ error.InvalidValue
-Undescribed (context.Plain p) n e = (e ≡ error.TooLong) × (18446744073709551615 < prefix_len_of p + (n + 1))
+Undescribed (context.Unmarked Descriptor) n e = e ≡ error.InvalidValue
+Undescribed (context.Unmarked p) n e = (e ≡ error.TooLong) × (18446744073709551615 < prefix_len_of p + (n + 1))
 Undescribed u n e = ⊥
 
 -- A part of this size is added, and `after` is the context after it; or it fails, and the compound

@@ -22,7 +22,7 @@ use Rattle.amqp_size.specs.declared.resolved_kind.ResolvedKind.{ResolvedKind}
 use Rattle.amqp_size.specs.declared.resolved_kind.ResolvedKind.TheVariants as resolved_kind
 
 abbrev pub position_of : Context → Position
-position_of (context.Plain p) = p
+position_of (context.Unmarked p) = p
 position_of (context.Array p) = p
 position_of (context.Transparent p) = p
 position_of (context.Scalar m p) = p
@@ -39,7 +39,7 @@ the_marker scalar_marker.Lazy = marker.Lazy
 
 -- The tree of the value, if this tree is serialized under the pending marker.
 abbrev pub meant : Context → Option Tree → Option Tree
-meant (context.Plain p) t = t
+meant (context.Unmarked p) t = t
 meant (context.Array p) t = with_marker marker.Array t
 meant (context.Transparent p) t = with_marker marker.Transparent t
 meant (context.Scalar m p) t = with_marker (the_marker m) t
@@ -130,11 +130,11 @@ described_position (Value h b) n = Some (Value (h + (n + 1)) b)
 
 abbrev pub plainly : Option Position → Option Context
 plainly None = None
-plainly (Some p) = Some (context.Plain p)
+plainly (Some p) = Some (context.Unmarked p)
 
 -- No marker accepts a described value.
 abbrev pub described_context : Context → ℕ → Option Context
-described_context (context.Plain p) n = plainly (described_position p n)
+described_context (context.Unmarked p) n = plainly (described_position p n)
 described_context (context.Array p) n = Some (context.Nothing p)
 described_context (context.Transparent p) n = Some (context.Nothing p)
 described_context (context.Scalar m p) n = Some (context.Nothing p)
@@ -152,10 +152,10 @@ prefix_len_of (Value h b) = h
 -- What a compound of this kind is encoded as.
 abbrev pub resolved_kind_of : Context → CompoundKind → ResolvedKind
 resolved_kind_of u kind.Single = resolved_kind.Single
-resolved_kind_of (context.Plain p) kind.List = resolved_kind.List
-resolved_kind_of (context.Plain p) kind.Map = resolved_kind.Map
-resolved_kind_of (context.Plain p) (kind.Variant i) = resolved_kind.Variant i
-resolved_kind_of (context.Plain p) (kind.NewtypeVariant i) = resolved_kind.NewtypeVariant i
+resolved_kind_of (context.Unmarked p) kind.List = resolved_kind.List
+resolved_kind_of (context.Unmarked p) kind.Map = resolved_kind.Map
+resolved_kind_of (context.Unmarked p) (kind.Variant i) = resolved_kind.Variant i
+resolved_kind_of (context.Unmarked p) (kind.NewtypeVariant i) = resolved_kind.NewtypeVariant i
 resolved_kind_of (context.Array p) kind.List = resolved_kind.Array
 resolved_kind_of (context.Transparent p) kind.List = resolved_kind.Transparent
 resolved_kind_of u k = resolved_kind.Refused
@@ -172,10 +172,10 @@ is_gathered s = true
 
 -- The position of the first part.
 abbrev pub inner_context_of : ResolvedKind → Context → Context
-inner_context_of resolved_kind.Array u = context.Plain FirstElement
-inner_context_of resolved_kind.Transparent u = context.Plain Root
+inner_context_of resolved_kind.Array u = context.Unmarked FirstElement
+inner_context_of resolved_kind.Transparent u = context.Unmarked Root
 inner_context_of resolved_kind.Single u = u
-inner_context_of s u = context.Plain InCompound
+inner_context_of s u = context.Unmarked InCompound
 
 -- The greatest total size of the parts.
 abbrev pub limit_of : ResolvedKind → ℕ

@@ -15,7 +15,7 @@ use Rattle.amqp_size.specs.Position.{position_of, meant, without_prefix, suits, 
 use Rattle.amqp_size.specs.WholePosition.{Position}
 use Rattle.amqp_size.specs.WholePosition.{Root, InCompound, FirstElement, Descriptor}
 use Rattle.amqp_size.specs.WholeContext.{Context}
-use Rattle.amqp_size.specs.WholeContext.{Plain}
+use Rattle.amqp_size.specs.WholeContext.{Unmarked}
 use Rattle.amqp_size.specs.WholeContext as context
 use Rattle.amqp_size.specs.declared.resolved_kind.ResolvedKind.TheVariants as resolved_kinds
 use Rattle.amqp_size.specs.declared.serializer.SizeSerializer.{SizeSerializer}
@@ -27,7 +27,7 @@ pub record Counted (p : Position) (t : Tree) (n : ℕ) (after : Context) : Type 
   pub uniform_arrays_it : uniform_arrays t ≡ true
   pub suited : suits p t ≡ true
   pub len : n ≡ extent p t
-  pub position : after ≡ Plain (next p t)
+  pub position : after ≡ Unmarked (next p t)
   pub ranged : IsRanged t
 
 -- `TooLong` only if a limit is exceeded, and `InvalidValue` only for another reason.
@@ -38,9 +38,9 @@ refused p t e = ⊥
 
 abbrev pub AtPosition : Position → Option Tree → Result ℕ SizeError → Context → Type 0
 AtPosition p None (Ok n) after = ⊥
-AtPosition p None (Err e) after = refuses_none e × (after ≡ Plain (without_prefix p))
+AtPosition p None (Err e) after = refuses_none e × (after ≡ Unmarked (without_prefix p))
 AtPosition p (Some t) (Ok n) after = Counted p t n after
-AtPosition p (Some t) (Err e) after = refused p t e × (after ≡ Plain (without_prefix p))
+AtPosition p (Some t) (Err e) after = refused p t e × (after ≡ Unmarked (without_prefix p))
 
 abbrev pub SizePermits : SizeSerializer → Option Tree → Result ℕ SizeError → SizeSerializer → Type 0
 SizePermits s t r after = AtPosition (position_of s.context) (meant s.context t) r after.context
@@ -48,8 +48,8 @@ SizePermits s t r after = AtPosition (position_of s.context) (meant s.context t)
 -- A value has its ordinary form here: no marker and no descriptor precedes it, and it is no element
 -- of an array.
 abbrev pub TakesWhole : Context → Type 0
-TakesWhole (context.Plain Root) = Unit {0}
-TakesWhole (context.Plain InCompound) = Unit {0}
+TakesWhole (context.Unmarked Root) = Unit {0}
+TakesWhole (context.Unmarked InCompound) = Unit {0}
 TakesWhole u = ⊥
 
 -- The bytes of the parts, in an array or not.
@@ -76,12 +76,12 @@ one_in false ts = true
 one_in true ts = one_constructor ts
 
 -- The parts of an open compound.
-pub record FedTrees (compound : OpenCompound) (ts : Trees) : Type 0 where
+pub record AcceptedTrees (compound : OpenCompound) (ts : Trees) : Type 0 where
   pub sum : compound.sum ≡ length (body_bytes (is_array compound.resolved_kind) ts)
   pub fits_sum : fits compound.sum ≡ true
   pub counted : compound.count ≡ counts (is_array compound.resolved_kind) ts
   pub few : is_count compound.count ≡ true
-  pub inner_context : compound.inner_context ≡ Plain (inner_position_of (is_array compound.resolved_kind) ts)
+  pub inner_context : compound.inner_context ≡ Unmarked (inner_position_of (is_array compound.resolved_kind) ts)
   pub uniform_arrays_parts : uniform_arrays_each ts ≡ true
   pub within_limits_parts : within_limits_each ts ≡ true
   pub inside_parts : inside_each ts ≡ true
@@ -98,7 +98,7 @@ pub record BeforeLast (compound : OpenCompound) (qs : List (Option Tree)) : Type
 pub record HoldsGathered (start : SizeSerializer) (kind : CompoundKind) (compound : OpenCompound) (ps : List (Option Tree)) : Type 0 where
   pub ts : Trees
   pub trees : all_trees ps ≡ Some ts
-  pub fed : FedTrees compound ts
+  pub accepted : AcceptedTrees compound ts
   pub position : compound.position ≡ position_of start.context
   pub resolved_kind : compound.resolved_kind ≡ resolved_kind_of start.context kind
   pub gathered : is_gathered compound.resolved_kind ≡ true
@@ -113,7 +113,7 @@ pub record HoldsTransparent (start : SizeSerializer) (kind : CompoundKind) (comp
   pub resolved_kind : compound.resolved_kind ≡ resolved_kinds.Transparent
   pub shaped : resolved_kind_of start.context kind ≡ resolved_kinds.Transparent
   pub sum : compound.sum ≡ length (encoding_each ts)
-  pub inner_context : compound.inner_context ≡ Plain Root
+  pub inner_context : compound.inner_context ≡ Unmarked Root
   pub uniform_arrays_parts : uniform_arrays_each ts ≡ true
   pub within_limits_parts : within_limits_each ts ≡ true
   pub placed_parts : placed_each ts ≡ true
@@ -137,16 +137,16 @@ abbrev pub Holding : SizeSerializer → CompoundKind → OpenCompound → List (
 Holding start kind compound ps = HoldsGathered start kind compound ps ⊎ (HoldsTransparent start kind compound ps ⊎ HoldsSingle start kind compound ps)
 
 abbrev pub SizeHas : SizeSerializer → CompoundKind → SizeSerializer → OpenCompound → List (Option Tree) → Type 0
-SizeHas start kind s compound ps = Holding start kind compound ps × (s.context ≡ Plain (without_prefix compound.position))
+SizeHas start kind s compound ps = Holding start kind compound ps × (s.context ≡ Unmarked (without_prefix compound.position))
 
 abbrev pub SizeAwaits : SizeSerializer → CompoundKind → SizeSerializer → OpenCompound → List (Option Tree) → Type 0
 SizeAwaits start kind s compound ps = Holding start kind compound ps × (s.context ≡ compound.inner_context)
 
 abbrev pub SizeAwaitsDescriptor : SizeSerializer → SizeSerializer → OpenCompound → Type 0
-SizeAwaitsDescriptor start s compound = HoldsSingle start kinds.Single compound [] × (s.context ≡ Plain Descriptor)
+SizeAwaitsDescriptor start s compound = HoldsSingle start kinds.Single compound [] × (s.context ≡ Unmarked Descriptor)
 
 none_at : (u : Context) (n : ℕ) (after : Context) → AtPosition (position_of u) (meant u None) (Ok n) after → ⊥
-none_at (context.Plain p) n after h = h
+none_at (context.Unmarked p) n after h = h
 none_at (context.Array p) n after h = h
 none_at (context.Transparent p) n after h = h
 none_at (context.Scalar m p) n after h = h

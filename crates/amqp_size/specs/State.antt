@@ -6,7 +6,7 @@ use Rattle.amqp_size.specs.declared.context.Context.{Context as KeptContext}
 use Rattle.amqp_size.specs.declared.context.Context.TheVariants as kept_context
 use Rattle.amqp_size.specs.declared.resolved_kind.ResolvedKind.{ResolvedKind}
 use Rattle.amqp_size.specs.WholePosition.{Position, Root, InCompound, FirstElement, OtherElement, Descriptor, Value}
-use Rattle.amqp_size.specs.WholeContext.{Context, Plain, Array, Transparent, Scalar, Nothing}
+use Rattle.amqp_size.specs.WholeContext.{Context, Unmarked, Array, Transparent, Scalar, Nothing}
 
 -- The position after `h` bytes of descriptors, if it is after descriptors.
 abbrev pub position_at : KeptPosition → ℕ → Position
@@ -18,7 +18,7 @@ position_at kept.Descriptor h = Descriptor
 position_at (kept.Value b) h = Value h b
 
 abbrev pub context_at : KeptContext → ℕ → Context
-context_at (kept_context.Plain p) h = Plain (position_at p h)
+context_at (kept_context.Unmarked p) h = Unmarked (position_at p h)
 context_at (kept_context.Array p) h = Array (position_at p h)
 context_at (kept_context.Transparent p) h = Transparent (position_at p h)
 context_at (kept_context.Scalar p m) h = Scalar m (position_at p h)

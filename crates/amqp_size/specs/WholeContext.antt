@@ -3,7 +3,7 @@ use Rattle.amqp_size.specs.declared.scalar_marker.ScalarMarker.{ScalarMarker}
 use Rattle.amqp_size.specs.WholePosition.{Position}
 
 pub data Context : Type 0 where
-  Plain : Position → Context
+  Unmarked : Position → Context
   Array : Position → Context
   Transparent : Position → Context
   Scalar : ScalarMarker → Position → Context

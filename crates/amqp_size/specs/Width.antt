@@ -6,24 +6,24 @@ use Rattle.amqp_ser.specs.Scalars.{sized}
 use Rattle.amqp_ser.specs.Encoding.{wide, list_form, map_form, array_form}
 
 -- A uint outside an array.
-abbrev pub uint_width : ℕ → ℕ
-uint_width n = if nat_eq n 0 then 1 else if nat_le n 255 then 2 else 5
+abbrev pub uint_form_len : ℕ → ℕ
+uint_form_len n = if nat_eq n 0 then 1 else if nat_le n 255 then 2 else 5
 
 -- A text or a binary of `n` bytes.
-abbrev pub text_width : ℕ → ℕ
-text_width n = if is_short n then n + 2 else n + 5
+abbrev pub text_form_len : ℕ → ℕ
+text_form_len n = if is_short n then n + 2 else n + 5
 
 -- A map, and any body after a size and a count.
-abbrev pub map_width : ℕ → ℕ
-map_width n = if is_short n then n + 3 else n + 9
+abbrev pub map_form_len : ℕ → ℕ
+map_form_len n = if is_short n then n + 3 else n + 9
 
 -- A list. Without elements it is one byte.
-abbrev pub list_width : ℕ → ℕ
-list_width n = if nat_eq n 0 then 1 else map_width n
+abbrev pub list_form_len : ℕ → ℕ
+list_form_len n = if nat_eq n 0 then 1 else map_form_len n
 
 -- An array with this content and this number of elements.
-abbrev pub array_width : ℕ → ℕ → ℕ
-array_width n count = if is_short n && nat_le count 255 then n + 3 else n + 9
+abbrev pub array_form_len : ℕ → ℕ → ℕ
+array_form_len n count = if is_short n && nat_le count 255 then n + 3 else n + 9
 
 -- A text or a binary of these bytes, and a list, a map or an array of this count and body: the
 -- complete form, or the payload of an array element.

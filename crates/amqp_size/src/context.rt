@@ -15,7 +15,7 @@ use amqp_ser::{CompoundKind, Marker};
 #[derive(Clone, Copy, Debug)]
 pub enum Context {
     /// No marker.
-    Plain(Position),
+    Unmarked(Position),
     /// The array marker.
     Array(Position),
     /// The transparent vector marker.
@@ -33,7 +33,7 @@ impl Context {
         ensures { (h : ℕ) → position_at result h ≡ position_of (context_at self h) }
     {
         match self {
-            Context::Plain(position) => position,
+            Context::Unmarked(position) => position,
             Context::Array(position) => position,
             Context::Transparent(position) => position,
             Context::Scalar(position, _) => position,
@@ -56,7 +56,7 @@ impl Context {
         ensures { (h : ℕ) → result ≡ resolved_kind_of (context_at self h) kind }
     {
         match self {
-            Context::Plain(_) => match kind {
+            Context::Unmarked(_) => match kind {
                 CompoundKind::List => ResolvedKind::List,
                 CompoundKind::Map => ResolvedKind::Map,
                 CompoundKind::Variant(index) => ResolvedKind::Variant(index),
@@ -77,10 +77,10 @@ impl Context {
         ensures { (h : ℕ) → context_at result h ≡ inner_context_of resolved_kind (context_at self h) }
     {
         match resolved_kind {
-            ResolvedKind::Array => Context::Plain(Position::FirstElement),
-            ResolvedKind::Transparent => Context::Plain(Position::Root),
+            ResolvedKind::Array => Context::Unmarked(Position::FirstElement),
+            ResolvedKind::Transparent => Context::Unmarked(Position::Root),
             ResolvedKind::Single => self,
-            _ => Context::Plain(Position::InCompound),
+            _ => Context::Unmarked(Position::InCompound),
         }
     }
 
@@ -90,7 +90,7 @@ impl Context {
         ensures { (h : ℕ) → result ≡ resolved_kind_of (context_at self h) CompoundKind.List }
     {
         match self {
-            Context::Plain(_) => ResolvedKind::List,
+            Context::Unmarked(_) => ResolvedKind::List,
             Context::Array(_) => ResolvedKind::Array,
             Context::Transparent(_) => ResolvedKind::Transparent,
             _ => ResolvedKind::Refused,
@@ -127,7 +127,7 @@ impl Context {
             position_of (context_at result h) ≡ position_of (context_at self h) }
     {
         match self {
-            Context::Plain(position) => Context::Array(position),
+            Context::Unmarked(position) => Context::Array(position),
             context => Context::Nothing(context.position()),
         }
     }
@@ -140,7 +140,7 @@ impl Context {
             position_of (context_at result h) ≡ position_of (context_at self h) }
     {
         match self {
-            Context::Plain(position) => Context::Transparent(position),
+            Context::Unmarked(position) => Context::Transparent(position),
             context => Context::Nothing(context.position()),
         }
     }
@@ -153,7 +153,7 @@ impl Context {
             position_of (context_at result h) ≡ position_of (context_at self h) }
     {
         match self {
-            Context::Plain(position) => Context::Scalar(position, marker),
+            Context::Unmarked(position) => Context::Scalar(position, marker),
             context => Context::Nothing(context.position()),
         }
     }

@@ -207,7 +207,7 @@ impl OpenCompound {
     {
         // After the first element, `after` contains its constructor.
         let opened = match (self.inner_context, after) {
-            (Context::Plain(Position::FirstElement), Context::Plain(Position::OtherElement(_))) =>
+            (Context::Unmarked(Position::FirstElement), Context::Unmarked(Position::OtherElement(_))) =>
                 1,
             _ => 0,
         };
@@ -264,7 +264,7 @@ impl OpenCompound {
         ensures sum { self.new.sum ≡ self.old.sum }
         ensures count { self.new.count ≡ self.old.count }
     {
-        let Context::Plain(position) = self.inner_context else {
+        let Context::Unmarked(position) = self.inner_context else {
             self.inner_context = Context::Nothing(self.inner_context.position());
             return Ok(());
         };
@@ -277,7 +277,7 @@ impl OpenCompound {
             return Err(SizeError::TooLong);
         }
         self.prefix_len = prefix_len + (size + 1);
-        self.inner_context = Context::Plain(inner_context);
+        self.inner_context = Context::Unmarked(inner_context);
         Ok(())
     }
 }

@@ -5,7 +5,7 @@ ghost use Rattle.amqp_ser.specs.Tree.{Tree};
 ghost use Rattle.amqp_ser.specs.Ends.{EndsPart, EndsDescriptor};
 ghost use Rattle.amqp_ser.specs.Composites.{descriptor_of};
 ghost use Rattle.amqp_ser.specs.SizeAndBytes.{IsSizeOf};
-ghost use Rattle.amqp_size.specs.WholeContext.{Plain};
+ghost use Rattle.amqp_size.specs.WholeContext.{Unmarked};
 ghost use Rattle.amqp_size.specs.WholePosition as whole_position;
 
 use crate::context::Context;
@@ -15,7 +15,7 @@ use crate::resolved_kind::ResolvedKind;
 use crate::scalar_encoding::ScalarEncoding;
 use crate::scalar_marker::ScalarMarker;
 use crate::size_error::SizeError;
-use crate::width::{array_width, list_width, map_width};
+use crate::width::{array_form_len, list_form_len, map_form_len};
 use amqp_data::{EncodingCodes, Error};
 use amqp_ser::{CompoundKind, Fixed, Marker, Serialize, Serializer, Whole};
 use std::marker::Model;
@@ -56,10 +56,10 @@ impl SizeSerializer {
     /// Creates a serializer at the root.
     #[inline(always)]
     pub fn new() -> SizeSerializer
-        ensures { result.context ≡ Plain whole_position.Root }
+        ensures { result.context ≡ Unmarked whole_position.Root }
     {
         SizeSerializer {
-            context: Context::Plain(Position::Root),
+            context: Context::Unmarked(Position::Root),
             prefix_len: 0,
             tries_parts: true,
         }
@@ -67,10 +67,10 @@ impl SizeSerializer {
 }
 
 impl Default for SizeSerializer {
-    ghost use Rattle.amqp_size.specs.WholeContext.{Plain};
+    ghost use Rattle.amqp_size.specs.WholeContext.{Unmarked};
     ghost use Rattle.amqp_size.specs.WholePosition.{Root};
 
-    ghost is_default = { λ s. s.context ≡ Plain Root };
+    ghost is_default = { λ s. s.context ≡ Unmarked Root };
 
     fn default() -> SizeSerializer {
         SizeSerializer::new()
@@ -116,7 +116,7 @@ impl Serializer for SizeSerializer {
         let prefix_len = self.prefix_len;
         self.clear_prefix();
         match context {
-            Context::Plain(position) => {
+            Context::Unmarked(position) => {
                 let ordinary = ScalarEncoding::ordinary(fixed);
                 let wide = ScalarEncoding::in_array(fixed);
                 self.size_at(
@@ -151,7 +151,7 @@ impl Serializer for SizeSerializer {
         let prefix_len = self.prefix_len;
         self.clear_prefix();
         match context {
-            Context::Plain(position) => self.size_at(
+            Context::Unmarked(position) => self.size_at(
                 position,
                 prefix_len,
                 EncodingCodes::Null as u8,
@@ -172,7 +172,7 @@ impl Serializer for SizeSerializer {
         let prefix_len = self.prefix_len;
         self.clear_prefix();
         match context {
-            Context::Plain(position) => self.text(
+            Context::Unmarked(position) => self.text(
                 position,
                 prefix_len,
                 EncodingCodes::Str32 as u8,
@@ -198,7 +198,7 @@ impl Serializer for SizeSerializer {
         let prefix_len = self.prefix_len;
         self.clear_prefix();
         match context {
-            Context::Plain(position) => self.text(
+            Context::Unmarked(position) => self.text(
                 position,
                 prefix_len,
                 EncodingCodes::Vbin32 as u8,
@@ -230,7 +230,7 @@ impl Serializer for SizeSerializer {
 
     #[inline(always)]
     fn placeholder(&self) -> OpenCompound {
-        OpenCompound::new(Context::Plain(Position::Root), 0, ResolvedKind::Refused)
+        OpenCompound::new(Context::Unmarked(Position::Root), 0, ResolvedKind::Refused)
     }
 
     #[inline(always)]
@@ -260,13 +260,13 @@ impl Serializer for SizeSerializer {
         ensures same { IfErr part
             (λ e. (result ≡ Err e)
             × ((compound.new ≡ compound.old)
-            × (self.new.context ≡ Plain (without_prefix compound.old.position)))) }
+            × (self.new.context ≡ Unmarked (without_prefix compound.old.position)))) }
         ensures one_alone { compound.old.resolved_kind ≡ ResolvedKind.Single → 1 ≤ compound.old.count →
             IfOk part (λ _. result ≡ Err InvalidValue) }
     {
         // `size_at` has stored the constructor of an array's first element in `context`.
         let after = self.context;
-        self.context = Context::Plain(compound.position().without_prefix());
+        self.context = Context::Unmarked(compound.position().without_prefix());
         let size = part?;
         compound.add_part(size, after)
     }
@@ -275,10 +275,10 @@ impl Serializer for SizeSerializer {
     fn begin_descriptor(&mut self, compound: &mut OpenCompound)
         ensures ready { (start : SizeSerializer) → SizeHas start CompoundKind.Single self.old compound.old [] →
             SizeAwaitsDescriptor start self.new compound.new }
-        ensures context { self.new.context ≡ Plain whole_position.Descriptor }
+        ensures context { self.new.context ≡ Unmarked whole_position.Descriptor }
         ensures kept { compound.new ≡ compound.old }
     {
-        self.context = Context::Plain(Position::Descriptor);
+        self.context = Context::Unmarked(Position::Descriptor);
     }
 
     #[inline(always)]
@@ -298,9 +298,9 @@ impl Serializer for SizeSerializer {
         ensures same { IfErr part
             (λ e. (result ≡ Err e)
             × ((compound.new ≡ compound.old)
-            × (self.new.context ≡ Plain (without_prefix compound.old.position)))) }
+            × (self.new.context ≡ Unmarked (without_prefix compound.old.position)))) }
     {
-        self.context = Context::Plain(compound.position().without_prefix());
+        self.context = Context::Unmarked(compound.position().without_prefix());
         let descriptor = part?;
         compound.describe(descriptor)
     }
@@ -333,28 +333,28 @@ impl Serializer for SizeSerializer {
                 position,
                 prefix_len,
                 EncodingCodes::List32 as u8,
-                list_width(sum),
+                list_form_len(sum),
                 sum + 8,
             ),
             ResolvedKind::Map => self.size_at(
                 position,
                 prefix_len,
                 EncodingCodes::Map32 as u8,
-                map_width(sum),
+                map_form_len(sum),
                 sum + 8,
             ),
             ResolvedKind::Variant(index) => self.variant(
                 position,
                 prefix_len,
                 index,
-                list_width(sum),
+                list_form_len(sum),
             ),
             ResolvedKind::NewtypeVariant(index) => self.variant(position, prefix_len, index, sum),
             ResolvedKind::Array => self.size_at(
                 position,
                 prefix_len,
                 EncodingCodes::Array32 as u8,
-                array_width(sum, compound.count()),
+                array_form_len(sum, compound.count()),
                 sum + 8,
             ),
             ResolvedKind::Transparent => self.transparent(position, prefix_len, sum),

@@ -1,13 +1,13 @@
 //! The sizes of trees at each position, and the trees that a position rejects.
 
 ghost use Rattle.std.specs.Prelude.{◌≡◌, ◌<◌, ◌^◌, ◌+◌, ◌&&◌, ℕ, List, Some, None, Err, true, length};
-ghost use Rattle.amqp_frame.specs.Whole.{is_frame};
+ghost use Rattle.amqp_frame.specs.Whole.{is_encoded_value};
 ghost use Rattle.amqp_ser.specs.Tree.{Tree, Trees, lazy, transparent};
 ghost use Rattle.amqp_ser.specs.Limits.{fits};
 ghost use Rattle.amqp_ser.specs.Ranged.{IsRanged, AreRanged, AreBytes};
 ghost use Rattle.amqp_ser.specs.Encoding.{encoding, encoding_each, payload, constructor};
 ghost use Rattle.amqp_ser.specs.Writable.{uniform_arrays, uniform_arrays_each, within_limits, within_limits_each, inside, placed, placed_each};
-ghost use Rattle.amqp_size.specs.Width.{uint_width, text_width, map_width};
+ghost use Rattle.amqp_size.specs.Width.{uint_form_len, text_form_len, map_form_len};
 ghost use Rattle.amqp_size.specs.MarkedBytes.{marked_bytes};
 ghost use Rattle.amqp_size.specs.Position.{position_of, without_prefix};
 
@@ -18,24 +18,24 @@ use crate::position::Position;
 use crate::scalar_marker::ScalarMarker;
 use crate::serializer::SizeSerializer;
 use crate::size_error::SizeError;
-use crate::width::{map_width, text_width, uint_width};
+use crate::width::{map_form_len, text_form_len, uint_form_len};
 use amqp_data::EncodingCodes;
-use amqp_frame::is_frame;
+use amqp_frame::is_encoded_value;
 
 impl SizeSerializer {
-    ghost use Rattle.amqp_size.specs.WholeContext.{Plain};
+    ghost use Rattle.amqp_size.specs.WholeContext.{Unmarked};
     ghost use Rattle.amqp_size.specs.State.{position_at};
     ghost use Rattle.amqp_size.specs.SizeSerializer.{AtPosition};
 
     /// Clears the pending marker and descriptor.
     #[inline(always)]
     pub(crate) fn clear_prefix(&mut self)
-        ensures { self.new.context ≡ Plain (without_prefix (position_of self.old.context)) }
+        ensures { self.new.context ≡ Unmarked (without_prefix (position_of self.old.context)) }
     {
         match self.context {
-            Context::Plain(Position::Value(base)) => self.context = Context::Plain(base.position()),
-            Context::Plain(_) => {}
-            context => self.context = Context::Plain(context.without_prefix()),
+            Context::Unmarked(Position::Value(base)) => self.context = Context::Unmarked(base.position()),
+            Context::Unmarked(_) => {}
+            context => self.context = Context::Unmarked(context.without_prefix()),
         }
     }
 
@@ -58,7 +58,7 @@ impl SizeSerializer {
         ordinary: usize,
         wide: usize,
     ) -> Result<usize, SizeError>
-        ensures { self.old.context ≡ Plain (without_prefix (position_at position prefix_len)) →
+        ensures { self.old.context ≡ Unmarked (without_prefix (position_at position prefix_len)) →
             (t : Tree) →
             constructor t ≡ Some code → within_limits t ≡ true → uniform_arrays t ≡ true →
             inside t ≡ true →
@@ -71,7 +71,7 @@ impl SizeSerializer {
             Position::InCompound => Ok(ordinary),
             Position::FirstElement => {
                 // `end_part` reads the constructor of an array's first element from here.
-                self.context = Context::Plain(Position::OtherElement(code));
+                self.context = Context::Unmarked(Position::OtherElement(code));
                 Ok(wide)
             }
             Position::OtherElement(c) => {
@@ -98,22 +98,22 @@ impl SizeSerializer {
         code: u8,
         n: usize,
     ) -> Result<usize, SizeError>
-        ensures { self.old.context ≡ Plain (without_prefix (position_at position prefix_len)) →
+        ensures { self.old.context ≡ Unmarked (without_prefix (position_at position prefix_len)) →
             (t : Tree) →
             constructor t ≡ Some code → uniform_arrays t ≡ true → inside t ≡ true →
             placed t ≡ true →
             within_limits t ≡ fits n →
-            length (encoding t) ≡ text_width n → length (payload t) ≡ n + 4 → IsRanged t →
+            length (encoding t) ≡ text_form_len n → length (payload t) ≡ n + 4 → IsRanged t →
             AtPosition (position_at position prefix_len) (Some t) result self.new.context }
     {
         // A short text is within the limit: one comparison is enough.
         if n <= 254 {
-            return self.size_at(position, prefix_len, code, text_width(n), n + 4);
+            return self.size_at(position, prefix_len, code, text_form_len(n), n + 4);
         }
         if n > MAX_LEN {
             return Err(SizeError::TooLong);
         }
-        self.size_at(position, prefix_len, code, text_width(n), n + 4)
+        self.size_at(position, prefix_len, code, text_form_len(n), n + 4)
     }
 
     /// Like `size_at`, for a binary under a scalar marker: a decimal, a uuid or a lazy value.
@@ -128,14 +128,14 @@ impl SizeSerializer {
         marker: ScalarMarker,
         bytes: &[u8],
     ) -> Result<usize, SizeError>
-        ensures answered { self.old.context ≡ Plain (without_prefix (position_at position prefix_len)) →
+        ensures answered { self.old.context ≡ Unmarked (without_prefix (position_at position prefix_len)) →
             AtPosition (position_at position prefix_len) (marked_bytes marker bytes.now) result
             self.new.context }
         ensures no_tree { marked_bytes marker bytes.now ≡ None → result ≡ Err SizeError.InvalidValue }
     {
         match marker {
             ScalarMarker::Lazy => {
-                if is_frame(bytes) {
+                if is_encoded_value(bytes) {
                     self.lazy(position, prefix_len, bytes.len())
                 } else {
                     Err(SizeError::InvalidValue)
@@ -157,7 +157,7 @@ impl SizeSerializer {
     /// Like `size_at`, for a lazy tree of `len` bytes.
     ///
     /// A lazy tree has no constructor, so it is neither an array element nor a descriptor.
-    #[tactic(auto, using(amqp_frame::proofs::Whole::passes_frame))]
+    #[tactic(auto, using(amqp_frame::proofs::Whole::passes_encoded_value))]
     #[inline(always)]
     fn lazy(
         &mut self,
@@ -165,8 +165,8 @@ impl SizeSerializer {
         prefix_len: usize,
         len: usize,
     ) -> Result<usize, SizeError>
-        ensures { self.old.context ≡ Plain (without_prefix (position_at position prefix_len)) →
-            (bytes : List ℕ) → length bytes ≡ len → AreBytes bytes → is_frame bytes ≡ true →
+        ensures { self.old.context ≡ Unmarked (without_prefix (position_at position prefix_len)) →
+            (bytes : List ℕ) → length bytes ≡ len → AreBytes bytes → is_encoded_value bytes ≡ true →
             AtPosition (position_at position prefix_len) (Some (lazy bytes)) result
             self.new.context }
     {
@@ -189,22 +189,22 @@ impl SizeSerializer {
         index: u32,
         size: usize,
     ) -> Result<usize, SizeError>
-        ensures { self.old.context ≡ Plain (without_prefix (position_at position prefix_len)) →
+        ensures { self.old.context ≡ Unmarked (without_prefix (position_at position prefix_len)) →
             (t v : Tree) →
             constructor t ≡ Some 0xd1 → uniform_arrays t ≡ true → inside t ≡ true →
             placed t ≡ true →
             within_limits v ≡ true →
-            within_limits t ≡ (fits (uint_width index + size) && within_limits v) →
-            length (encoding t) ≡ map_width (uint_width index + size) →
-            length (payload t) ≡ uint_width index + size + 8 → (index < 2 ^ 32 → IsRanged t) →
+            within_limits t ≡ (fits (uint_form_len index + size) && within_limits v) →
+            length (encoding t) ≡ map_form_len (uint_form_len index + size) →
+            length (payload t) ≡ uint_form_len index + size + 8 → (index < 2 ^ 32 → IsRanged t) →
             AtPosition (position_at position prefix_len) (Some t) result self.new.context }
     {
-        let body = add_within(uint_width(index), size, MAX_LEN)?;
+        let body = add_within(uint_form_len(index), size, MAX_LEN)?;
         self.size_at(
             position,
             prefix_len,
             EncodingCodes::Map32 as u8,
-            map_width(body),
+            map_form_len(body),
             body + 8,
         )
     }
@@ -220,7 +220,7 @@ impl SizeSerializer {
         prefix_len: usize,
         sum: usize,
     ) -> Result<usize, SizeError>
-        ensures { self.old.context ≡ Plain (without_prefix (position_at position prefix_len)) →
+        ensures { self.old.context ≡ Unmarked (without_prefix (position_at position prefix_len)) →
             (ts : Trees) →
             within_limits_each ts ≡ true → uniform_arrays_each ts ≡ true → placed_each ts ≡ true →
             sum ≡ length (encoding_each ts) → AreRanged ts →

@@ -16,8 +16,8 @@ impl SizeSerializer {
         ensures { result ≡ true → TakesWhole self.now.context }
     {
         match self.context {
-            Context::Plain(Position::Root) => true,
-            Context::Plain(Position::InCompound) => self.tries_parts,
+            Context::Unmarked(Position::Root) => true,
+            Context::Unmarked(Position::InCompound) => self.tries_parts,
             _ => false,
         }
     }

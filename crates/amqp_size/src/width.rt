@@ -5,15 +5,15 @@
 
 ghost use Rattle.std.specs.Prelude.{◌≡◌, ◌≤◌, ◌&&◌, ℕ, List, length, true, false, MatchResult, IfOk};
 ghost use Rattle.amqp_ser.specs.Limits.{fits, is_count};
-ghost use Rattle.amqp_size.specs.Width.{uint_width, text_width, map_width, list_width, array_width, text_at, list_at, map_at, array_at};
+ghost use Rattle.amqp_size.specs.Width.{uint_form_len, text_form_len, map_form_len, list_form_len, array_form_len, text_at, list_at, map_at, array_at};
 
 use crate::limits::within_limit;
 pub use crate::limits::{MAX_COUNT, MAX_LEN};
 use amqp_data::Error;
 
 /// Returns the length of a uint outside an array.
-pub fn uint_width(n: u32) -> usize
-    ensures { result ≡ uint_width n }
+pub fn uint_form_len(n: u32) -> usize
+    ensures { result ≡ uint_form_len n }
 {
     if n == 0 {
         1
@@ -25,33 +25,33 @@ pub fn uint_width(n: u32) -> usize
 }
 
 /// Returns the length of a text or a binary of `n` bytes outside an array.
-pub fn text_width(n: usize) -> usize
+pub fn text_form_len(n: usize) -> usize
     requires { n ≤ 4294967291 }
-    ensures { result ≡ text_width n }
+    ensures { result ≡ text_form_len n }
 {
     if n <= 254 { n + 2 } else { n + 5 }
 }
 
 /// Returns the length of a map whose body has `n` bytes.
-pub fn map_width(n: usize) -> usize
+pub fn map_form_len(n: usize) -> usize
     requires { n ≤ 4294967291 }
-    ensures { result ≡ map_width n }
+    ensures { result ≡ map_form_len n }
 {
     if n <= 254 { n + 3 } else { n + 9 }
 }
 
 /// Returns the length of a list whose body has `n` bytes.
-pub fn list_width(n: usize) -> usize
+pub fn list_form_len(n: usize) -> usize
     requires { n ≤ 4294967291 }
-    ensures { result ≡ list_width n }
+    ensures { result ≡ list_form_len n }
 {
-    if n == 0 { 1 } else { map_width(n) }
+    if n == 0 { 1 } else { map_form_len(n) }
 }
 
 /// Returns the length of an array of `count` elements whose content has `n` bytes.
-pub fn array_width(n: usize, count: usize) -> usize
+pub fn array_form_len(n: usize, count: usize) -> usize
     requires { n ≤ 4294967291 }
-    ensures { result ≡ array_width n count }
+    ensures { result ≡ array_form_len n count }
 {
     if n <= 254 && count <= 255 {
         n + 3
@@ -78,7 +78,7 @@ pub fn text_len(text: usize, in_array: bool) -> Result<usize, Error>
         length (text_at in_array c8 c32 bs) ≡ len) }
 {
     let n = within_limit(text)?;
-    Ok(if in_array { n + 4 } else { text_width(n) })
+    Ok(if in_array { n + 4 } else { text_form_len(n) })
 }
 
 /// Returns the length of a list whose elements have this many bytes together: the complete form, or
@@ -100,7 +100,7 @@ pub fn list_len(elements: usize, in_array: bool) -> Result<usize, Error>
         length (list_at in_array m body) ≡ len) }
 {
     let n = within_limit(elements)?;
-    Ok(if in_array { n + 8 } else { list_width(n) })
+    Ok(if in_array { n + 8 } else { list_form_len(n) })
 }
 
 /// Returns the length of a map whose keys and values have this many bytes together: the complete
@@ -122,7 +122,7 @@ pub fn map_len(entries: usize, in_array: bool) -> Result<usize, Error>
         length (map_at in_array m body) ≡ len) }
 {
     let n = within_limit(entries)?;
-    Ok(if in_array { n + 8 } else { map_width(n) })
+    Ok(if in_array { n + 8 } else { map_form_len(n) })
 }
 
 /// Returns the length of an array whose content, including the constructor, has this many bytes:
@@ -151,6 +151,6 @@ pub fn array_len(content: usize, count: usize, in_array: bool) -> Result<usize, 
     Ok(if in_array {
         n + 8
     } else {
-        array_width(n, count)
+        array_form_len(n, count)
     })
 }

@@ -10,21 +10,21 @@ use Rattle.amqp_value.specs.TreeOf.{tree_of}
 use Rattle.amqp_value.specs.declared.value.Value.{Value}
 use Rattle.amqp_to_value.specs.PendingDescriptors.{DescriptorsState, under_descriptors, described_by, standing}
 use Rattle.amqp_to_value.specs.ValueSerializer.{IsSaved, IsFresh, IsKept, Leaves, described_none, meant_by, ValuePermits}
-use Rattle.amqp_to_value.specs.ImageOf.{error_of, refuses, StandsFor}
+use Rattle.amqp_to_value.specs.ImageOf.{error_of, refuses, Represents}
 use Rattle.amqp_ser.specs.Meant.{meant, meant_none}
 use Rattle.amqp_to_value.specs.declared.next_capacity.NextCapacity.{NextCapacity}
 use Rattle.amqp_ser.specs.declared.pending.Pending.TheVariants as pending
 use Rattle.amqp_to_value.specs.declared.serializer.Serializer.{Serializer}
 use Rattle.amqp_to_value.specs.declared.value_error.ValueError.{ValueError}
-use Rattle.amqp_to_value.proofs.PendingDescriptorLemmas.{refuses_in, standing_left, stands_in}
-use Rattle.amqp_to_value.proofs.LazyLemmas.{spoils}
+use Rattle.amqp_to_value.proofs.PendingDescriptorLemmas.{refuses_in, standing_left, represents_described}
+use Rattle.amqp_to_value.proofs.LazyLemmas.{unreadable_whole}
 
 -- A value inside its pending descriptors is a permitted result.
 pub finished : (start after : Serializer) (t : Option Tree) (v w : Value) (others ds : List Descriptor) → others ≡ start.descriptors.kept → ds ≡ standing start.descriptors
     → after.pending ≡ pending.Marker marker.Other → after.descriptors.kept ≡ others → after.descriptors.next ≡ false → length (others ++ ds) ≤ after.descriptors.room
-    → tree_of w ≡ under_descriptors ds (tree_of v) → StandsFor v (meant start.pending t) → ValuePermits start t (Ok w) after
+    → tree_of w ≡ under_descriptors ds (tree_of v) → Represents v (meant start.pending t) → ValuePermits start t (Ok w) after
 finished start after t v w others ds e f fresh is none room d s = (
-  stands_in (standing start.descriptors) (meant start.pending t) v w (d ∙ ap (λ x. under_descriptors x (tree_of v)) f) s,
+  represents_described (standing start.descriptors) (meant start.pending t) v w (d ∙ ap (λ x. under_descriptors x (tree_of v)) f) s,
   (((fresh, none), is ∙ e), subst (λ n. n ≤ after.descriptors.room) (λ i. length (e i ++ f i)) room),
 )
 
@@ -68,7 +68,7 @@ none_refused s = none_too s error.InvalidValue tt
 
 -- An error that is permitted for a tree or none is permitted for none.
 pub refuses_too : (e : Error) (o : Option Tree) → refuses e o → refuses e None
-refuses_too e o r = spoils e o None (λ h. tt) r
+refuses_too e o r = unreadable_whole e o None (λ h. tt) r
 
 -- A single compound of two parts has no tree.
 two_trees : (t u : Tree) (o : Option Trees) → as_kind kinds.Single (prepend (Some t) (prepend (Some u) o)) ≡ None

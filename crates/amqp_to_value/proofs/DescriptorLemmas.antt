@@ -10,7 +10,7 @@ use Rattle.amqp_value.specs.TreeOf.{tree_of}
 use Rattle.amqp_value.specs.declared.value.Value.{Value}
 use Rattle.amqp_to_value.specs.PendingDescriptors.{described_by, standing}
 use Rattle.amqp_to_value.specs.ValueSerializer.{IsKeepingDescriptor, Leaves, meant_by, ValuePermits}
-use Rattle.amqp_to_value.specs.ImageOf.{refuses, StandsFor, Answers}
+use Rattle.amqp_to_value.specs.ImageOf.{refuses, Represents, Answers}
 use Rattle.amqp_ser.specs.Meant.{as_descriptor, meant}
 use Rattle.amqp_ser.specs.declared.pending.Pending.{Pending}
 use Rattle.amqp_to_value.specs.declared.serializer.Serializer.{Serializer}
@@ -20,15 +20,15 @@ use Rattle.amqp_to_value.proofs.LazyLemmas.{read_refused}
 use Rattle.amqp_to_value.proofs.PendingDescriptorLemmas.{standing_none}
 
 -- A value that represents a scalar gives the same descriptor as the scalar.
-same_scalar : (v : Value) (s : Scalar) → StandsFor v (Some (scalar s)) → descriptor_of (Some (scalar s)) ≡ descriptor_of (Some (tree_of v))
+same_scalar : (v : Value) (s : Scalar) → Represents v (Some (scalar s)) → descriptor_of (Some (scalar s)) ≡ descriptor_of (Some (tree_of v))
 same_scalar v s h = ap (λ u. descriptor_of (Some (image u))) (sym h.1) ∙ ap (λ u. descriptor_of (Some u)) (sym h.2)
 
-scalar_descriptor : (v : Value) (s : Scalar) → StandsFor v (as_descriptor (Some (scalar s))) → descriptor_of (Some (scalar s)) ≡ descriptor_of (Some (tree_of v))
+scalar_descriptor : (v : Value) (s : Scalar) → Represents v (as_descriptor (Some (scalar s))) → descriptor_of (Some (scalar s)) ≡ descriptor_of (Some (tree_of v))
 scalar_descriptor v (ulong n) h = same_scalar v (ulong n) h
 scalar_descriptor v (symbol bs) h = same_scalar v (symbol bs) h
 scalar_descriptor v s h = absurd h
 
-pub same_descriptor : (v : Value) (d : Option Tree) → StandsFor v (as_descriptor d) → descriptor_of d ≡ descriptor_of (Some (tree_of v))
+pub same_descriptor : (v : Value) (d : Option Tree) → Represents v (as_descriptor d) → descriptor_of d ≡ descriptor_of (Some (tree_of v))
 same_descriptor v None h = absurd h
 same_descriptor v (Some (scalar s)) h = scalar_descriptor v s h
 same_descriptor v (Some t) h = absurd h

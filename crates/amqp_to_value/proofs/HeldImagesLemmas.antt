@@ -7,7 +7,7 @@ use Rattle.amqp_ser.proofs.Joins.{join, joined, all_trees-append}
 use Rattle.amqp_value.specs.Image.{image, images, images_onto, insert_tree}
 use Rattle.amqp_value.specs.TreeOf.{tree_of, all_of}
 use Rattle.amqp_value.specs.declared.value.Value.{Value}
-use Rattle.amqp_to_value.specs.HeldImages.{then, feed, fed_onto, RefusesOpened, IsOpenedImage}
+use Rattle.amqp_to_value.specs.HeldImages.{then, add_tree, added_onto, RefusesOpened, IsOpenedImage}
 use Rattle.amqp_to_value.specs.declared.value_error.ValueError.{ValueError}
 use Rattle.amqp_to_value.specs.declared.value_error.ValueError.TheVariants as error
 
@@ -32,10 +32,10 @@ pub all_of-then : (vs : List Value) (v : Value) (ts : Trees) (t : Tree) → all_
 all_of-then vs v ts t h e = all_of-push vs v ∙ (λ i. then (h i) (e i)) ∙ sym (images-then ts t)
 
 -- The state after one more key or value.
-pub fed_onto-then : (ts : Trees) (t : Tree) (done : Pairs) → fed_onto (then ts t) done ≡ feed (fed_onto ts done) (image t)
-fed_onto-then no_trees t done = refl
-fed_onto-then (more k no_trees) t done = refl
-fed_onto-then (more k (more v ts)) t done = fed_onto-then ts t (insert_tree done (image k) (image v))
+pub added_onto-then : (ts : Trees) (t : Tree) (done : Pairs) → added_onto (then ts t) done ≡ add_tree (added_onto ts done) (image t)
+added_onto-then no_trees t done = refl
+added_onto-then (more k no_trees) t done = refl
+added_onto-then (more k (more v ts)) t done = added_onto-then ts t (insert_tree done (image k) (image v))
 
 -- The state at the end: a pending key if the trees are not pairs, and otherwise the images of the
 -- pairs.
@@ -47,10 +47,10 @@ ends_before : (k v : Tree) (o : Option Pairs) (h : Pairs × Option Tree) (done :
 ends_before k v None h done e = e
 ends_before k v (Some ps) h done e = e
 
-pub ends : (ts : Trees) (done : Pairs) → Ends (in_pairs ts) (fed_onto ts done) done
+pub ends : (ts : Trees) (done : Pairs) → Ends (in_pairs ts) (added_onto ts done) done
 ends no_trees done = refl
 ends (more k no_trees) done = (image k, refl)
-ends (more k (more v ts)) done = ends_before k v (in_pairs ts) (fed_onto (more k (more v ts)) done) done (ends ts (insert_tree done (image k) (image v)))
+ends (more k (more v ts)) done = ends_before k v (in_pairs ts) (added_onto (more k (more v ts)) done) done (ends ts (insert_tree done (image k) (image v)))
 
 not_ended : (o : Option Pairs) (h : Pairs × Option Tree) (k : Tree) → Ends o h no_pairs → h.1 ≡ Some k → RefusesOpened error.InvalidValue (as_map o)
 not_ended None h k e is = tt
@@ -60,8 +60,8 @@ not_ended (Some ps) h k e is = absurd (none-some k (sym (ap (λ x. x.1) e) ∙ i
     none-some k q = cc
 
 -- A map whose last key has no value has no tree, so `InvalidValue` is permitted.
-pub pending_end : (ts : Trees) (k : Tree) → (fed_onto ts no_pairs).1 ≡ Some k → RefusesOpened error.InvalidValue (as_map (in_pairs ts))
-pending_end ts k is = not_ended (in_pairs ts) (fed_onto ts no_pairs) k (ends ts no_pairs) is
+pub pending_end : (ts : Trees) (k : Tree) → (added_onto ts no_pairs).1 ≡ Some k → RefusesOpened error.InvalidValue (as_map (in_pairs ts))
+pending_end ts k is = not_ended (in_pairs ts) (added_onto ts no_pairs) k (ends ts no_pairs) is
 
 ended : (o : Option Pairs) (h : Pairs × Option Tree) (ps : Pairs) (v : Value) → Ends o h no_pairs → h ≡ (ps, None) → tree_of v ≡ map ps → IsOpenedImage (as_map o) (Ok v)
 ended None h ps v e is compound_tree = absurd (none-some e.0 (sym (ap (λ x. x.1) is) ∙ e.1))
@@ -71,8 +71,8 @@ ended None h ps v e is compound_tree = absurd (none-some e.0 (sym (ap (λ x. x.1
 ended (Some qs) h ps v e is compound_tree = compound_tree ∙ ap (λ x. map x.0) (sym is ∙ e)
 
 -- The value of a map without a pending key.
-pub paired_end : (ts : Trees) (ps : Pairs) (v : Value) → fed_onto ts no_pairs ≡ (ps, None) → tree_of v ≡ map ps → IsOpenedImage (as_map (in_pairs ts)) (Ok v)
-paired_end ts ps v is compound_tree = ended (in_pairs ts) (fed_onto ts no_pairs) ps v (ends ts no_pairs) is compound_tree
+pub paired_end : (ts : Trees) (ps : Pairs) (v : Value) → added_onto ts no_pairs ≡ (ps, None) → tree_of v ≡ map ps → IsOpenedImage (as_map (in_pairs ts)) (Ok v)
+paired_end ts ps v is compound_tree = ended (in_pairs ts) (added_onto ts no_pairs) ps v (ends ts no_pairs) is compound_tree
 
 even_end : (o : Option Pairs) (h : Pairs × Option Tree) (done ps : Pairs) → Ends o h done → o ≡ Some ps → h.1 ≡ None
 even_end None h done ps e is = absurd (none-some ps is)
@@ -81,14 +81,14 @@ even_end None h done ps e is = absurd (none-some ps is)
     none-some ps q = cc
 even_end (Some qs) h done ps e is = ap (λ x. x.1) e
 
-fed_key : (h : Pairs × Option Tree) (t : Tree) → h.1 ≡ None → ((feed h t).0, None) ≡ h
-fed_key h t is = ap (λ o. ((feed (h.0, o) t).0, None)) is ∙ ap (λ o. (h.0, o)) (sym is)
+added_key : (h : Pairs × Option Tree) (t : Tree) → h.1 ≡ None → ((add_tree h t).0, None) ≡ h
+added_key h t is = ap (λ o. ((add_tree (h.0, o) t).0, None)) is ∙ ap (λ o. (h.0, o)) (sym is)
 
 -- Removing the pending key restores the state before it.
-pub key_back : (ts : Trees) (ps : Pairs) (t : Tree) (old new : Pairs × Option Tree) → in_pairs ts ≡ Some ps → old ≡ fed_onto (then ts t) no_pairs → new ≡ (old.0, None) → new ≡ fed_onto ts no_pairs
+pub key_back : (ts : Trees) (ps : Pairs) (t : Tree) (old new : Pairs × Option Tree) → in_pairs ts ≡ Some ps → old ≡ added_onto (then ts t) no_pairs → new ≡ (old.0, None) → new ≡ added_onto ts no_pairs
 key_back ts ps t old new p was is =
-    is ∙ ap (λ h. (h.0, None)) (was ∙ fed_onto-then ts t no_pairs)
-    ∙ fed_key (fed_onto ts no_pairs) (image t) (even_end (in_pairs ts) (fed_onto ts no_pairs) no_pairs ps (ends ts no_pairs) p)
+    is ∙ ap (λ h. (h.0, None)) (was ∙ added_onto-then ts t no_pairs)
+    ∙ added_key (added_onto ts no_pairs) (image t) (even_end (in_pairs ts) (added_onto ts no_pairs) no_pairs ps (ends ts no_pairs) p)
 
 -- One element is added, or none on an error.
 pub item_taken : (r : Result (Unit {0}) AllocError) (old new : List Value) (v : Value) (ts : Trees) (t : Tree)
@@ -99,9 +99,9 @@ item_taken (Err e) old new v ts t is h k = ap all_of is ∙ h
 
 -- One key or value is added, or none on an error.
 pub pair_taken : (r : Result (Unit {0}) AllocError) (old new : Pairs × Option Tree) (v : Value) (ts : Trees) (t : Tree)
-    → MatchResult r (λ _. new ≡ feed old (tree_of v)) (λ _. new ≡ old) → old ≡ fed_onto ts no_pairs → tree_of v ≡ image t
-    → MatchResult r (λ _. new ≡ fed_onto (then ts t) no_pairs) (λ _. new ≡ fed_onto ts no_pairs)
-pair_taken (Ok u) old new v ts t is h e = is ∙ (λ i. feed (h i) (e i)) ∙ sym (fed_onto-then ts t no_pairs)
+    → MatchResult r (λ _. new ≡ add_tree old (tree_of v)) (λ _. new ≡ old) → old ≡ added_onto ts no_pairs → tree_of v ≡ image t
+    → MatchResult r (λ _. new ≡ added_onto (then ts t) no_pairs) (λ _. new ≡ added_onto ts no_pairs)
+pair_taken (Ok u) old new v ts t is h e = is ∙ (λ i. add_tree (h i) (e i)) ∙ sym (added_onto-then ts t no_pairs)
 pair_taken (Err e) old new v ts t is h k = is ∙ h
 
 -- If there is not exactly one value, `InvalidValue` is permitted for a variant of one value.

@@ -1,12 +1,12 @@
--- If a lazy tree spells no value, every tree that contains it cannot be read.
+-- If a lazy tree encodes no value, every tree that contains it cannot be read.
 use Rattle.std.proofs.Common.{◌≡◌, ℕ, Bool, true, false, List, [], ◌∷◌, ◌++◌, Option, Some, None, refl, sym, subst, if◌then◌else◌}
 use Rattle.amqp_data.specs.declared.error.Error.{Error}
 use Rattle.amqp_data.specs.declared.error.Error.TheVariants as error
-use Rattle.amqp_decode.specs.Spells.{Spells}
-use Rattle.amqp_frame.specs.Whole.{is_frame}
+use Rattle.amqp_decode.specs.Encodes.{Encodes}
+use Rattle.amqp_frame.specs.Whole.{is_encoded_value}
 use Rattle.amqp_ser.specs.Tree.{Descriptor, Tree, Trees, Pairs, scalar, list, array, map, described, variant, lazy, transparent, no_trees, more}
 use Rattle.amqp_ser.specs.Compounds.{all_trees, prepend, as_kind, as_map, as_variant, in_pairs, prepend_pair, only, tree_of_parts}
-use Rattle.amqp_ser.specs.Marked.{marked_tree, of_frame}
+use Rattle.amqp_ser.specs.Marked.{marked_tree, of_encoded_value}
 use Rattle.amqp_ser.specs.declared.kind.CompoundKind.{CompoundKind}
 use Rattle.amqp_ser.specs.declared.kind.CompoundKind.TheVariants as kinds
 use Rattle.amqp_ser.specs.declared.marker.Marker.{Marker}
@@ -21,7 +21,7 @@ use Rattle.amqp_ser.specs.declared.pending.Pending.TheVariants as pending
 use Rattle.amqp_to_value.specs.declared.value_error.ValueError.{ValueError}
 use Rattle.amqp_to_value.specs.declared.value_error.ValueError.TheVariants as value_error
 
--- There is no tree, or a lazy tree in it spells no value.
+-- There is no tree, or a lazy tree in it encodes no value.
 abbrev pub Lacks : Option Tree → Type 0
 Lacks None = Unit {0}
 Lacks (Some t) = IsUnreadable t
@@ -39,16 +39,16 @@ faulted e o f h = absurd f
 
 -- If `q` cannot be read whenever `o` cannot, an error that is permitted for `o` is permitted for
 -- `q`.
-pub spoils : (e : Error) (o q : Option Tree) → (Lacks o → Lacks q) → refuses e o → refuses e q
-spoils error.OutOfMemory o q h r = tt
-spoils error.InvalidValue None q h r = faulted error.InvalidValue q r (h tt)
-spoils error.InvalidValue (Some t) q h r = faulted error.InvalidValue q r.0 (h r.1)
-spoils error.InvalidFormatCode None q h r = faulted error.InvalidFormatCode q r (h tt)
-spoils error.InvalidFormatCode (Some t) q h r = faulted error.InvalidFormatCode q r.0 (h r.1)
-spoils error.UnexpectedEof None q h r = faulted error.UnexpectedEof q r (h tt)
-spoils error.UnexpectedEof (Some t) q h r = faulted error.UnexpectedEof q r.0 (h r.1)
-spoils e None q h r = absurd r
-spoils e (Some t) q h r = absurd r.0
+pub unreadable_whole : (e : Error) (o q : Option Tree) → (Lacks o → Lacks q) → refuses e o → refuses e q
+unreadable_whole error.OutOfMemory o q h r = tt
+unreadable_whole error.InvalidValue None q h r = faulted error.InvalidValue q r (h tt)
+unreadable_whole error.InvalidValue (Some t) q h r = faulted error.InvalidValue q r.0 (h r.1)
+unreadable_whole error.InvalidFormatCode None q h r = faulted error.InvalidFormatCode q r (h tt)
+unreadable_whole error.InvalidFormatCode (Some t) q h r = faulted error.InvalidFormatCode q r.0 (h r.1)
+unreadable_whole error.UnexpectedEof None q h r = faulted error.UnexpectedEof q r (h tt)
+unreadable_whole error.UnexpectedEof (Some t) q h r = faulted error.UnexpectedEof q r.0 (h r.1)
+unreadable_whole e None q h r = absurd r
+unreadable_whole e (Some t) q h r = absurd r.0
 
 -- For a tree that can be read, only out of memory is permitted.
 pub read_refused : (e : Error) (t u : Tree) → Opened t u → refuses e (Some t) → e ≡ error.OutOfMemory
@@ -151,18 +151,18 @@ part_lacks u k ps t rest h =
     subst (λ o. Lacks (meant u (as_kind k o))) (sym (all_trees-append ps (Some t ∷ rest)))
     (meant_lacks u _ (joined_lacks k (all_trees ps) (all_trees rest) t h))
 
--- Bytes that spell no value make no readable lazy tree.
-frame_lacks : (b : Bool) (bs : List ℕ) → ((t : Tree) → Spells 256 bs t → ⊥) → Lacks (if b then Some (lazy bs) else None)
-frame_lacks true bs h = h
-frame_lacks false bs h = tt
+-- Bytes that encode no value make no readable lazy tree.
+encoded_lacks : (b : Bool) (bs : List ℕ) → ((t : Tree) → Encodes 256 bs t → ⊥) → Lacks (if b then Some (lazy bs) else None)
+encoded_lacks true bs h = h
+encoded_lacks false bs h = tt
 
 -- The error for bytes that were not decoded is permitted.
 pub lazy_refused : (bs : List ℕ) (e : Error) (r : ValueError) → (e ≡ error.OutOfMemory → r ≡ value_error.OutOfMemory) → ((e ≡ error.OutOfMemory → ⊥) → IsFault (error_of r))
-    → ((e ≡ error.OutOfMemory → ⊥) → (t : Tree) → Spells 256 bs t → ⊥) → refuses (error_of r) (of_frame bs)
-lazy_refused bs error.OutOfMemory r memory fault none = subst (λ x. refuses (error_of x) (of_frame bs)) (sym (memory refl)) tt
-lazy_refused bs error.InvalidValue r memory fault none = let no : error.InvalidValue ≡ error.OutOfMemory → ⊥ = λ e. cc in faulted (error_of r) (of_frame bs) (fault no) (frame_lacks (is_frame bs) bs (none no))
-lazy_refused bs error.InvalidFormatCode r memory fault none = let no : error.InvalidFormatCode ≡ error.OutOfMemory → ⊥ = λ e. cc in faulted (error_of r) (of_frame bs) (fault no) (frame_lacks (is_frame bs) bs (none no))
-lazy_refused bs error.UnexpectedEof r memory fault none = let no : error.UnexpectedEof ≡ error.OutOfMemory → ⊥ = λ e. cc in faulted (error_of r) (of_frame bs) (fault no) (frame_lacks (is_frame bs) bs (none no))
-lazy_refused bs error.TooLong r memory fault none = let no : error.TooLong ≡ error.OutOfMemory → ⊥ = λ e. cc in faulted (error_of r) (of_frame bs) (fault no) (frame_lacks (is_frame bs) bs (none no))
-lazy_refused bs error.Io r memory fault none = let no : error.Io ≡ error.OutOfMemory → ⊥ = λ e. cc in faulted (error_of r) (of_frame bs) (fault no) (frame_lacks (is_frame bs) bs (none no))
-lazy_refused bs (error.Message w) r memory fault none = let no : error.Message w ≡ error.OutOfMemory → ⊥ = λ e. cc in faulted (error_of r) (of_frame bs) (fault no) (frame_lacks (is_frame bs) bs (none no))
+    → ((e ≡ error.OutOfMemory → ⊥) → (t : Tree) → Encodes 256 bs t → ⊥) → refuses (error_of r) (of_encoded_value bs)
+lazy_refused bs error.OutOfMemory r memory fault none = subst (λ x. refuses (error_of x) (of_encoded_value bs)) (sym (memory refl)) tt
+lazy_refused bs error.InvalidValue r memory fault none = let no : error.InvalidValue ≡ error.OutOfMemory → ⊥ = λ e. cc in faulted (error_of r) (of_encoded_value bs) (fault no) (encoded_lacks (is_encoded_value bs) bs (none no))
+lazy_refused bs error.InvalidFormatCode r memory fault none = let no : error.InvalidFormatCode ≡ error.OutOfMemory → ⊥ = λ e. cc in faulted (error_of r) (of_encoded_value bs) (fault no) (encoded_lacks (is_encoded_value bs) bs (none no))
+lazy_refused bs error.UnexpectedEof r memory fault none = let no : error.UnexpectedEof ≡ error.OutOfMemory → ⊥ = λ e. cc in faulted (error_of r) (of_encoded_value bs) (fault no) (encoded_lacks (is_encoded_value bs) bs (none no))
+lazy_refused bs error.TooLong r memory fault none = let no : error.TooLong ≡ error.OutOfMemory → ⊥ = λ e. cc in faulted (error_of r) (of_encoded_value bs) (fault no) (encoded_lacks (is_encoded_value bs) bs (none no))
+lazy_refused bs error.Io r memory fault none = let no : error.Io ≡ error.OutOfMemory → ⊥ = λ e. cc in faulted (error_of r) (of_encoded_value bs) (fault no) (encoded_lacks (is_encoded_value bs) bs (none no))
+lazy_refused bs (error.Message w) r memory fault none = let no : error.Message w ≡ error.OutOfMemory → ⊥ = λ e. cc in faulted (error_of r) (of_encoded_value bs) (fault no) (encoded_lacks (is_encoded_value bs) bs (none no))

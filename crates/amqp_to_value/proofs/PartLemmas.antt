@@ -9,7 +9,7 @@ use Rattle.amqp_value.specs.TreeOf.{tree_of}
 use Rattle.amqp_value.specs.declared.value.Value.{Value}
 use Rattle.amqp_to_value.specs.PendingDescriptors.{under_descriptors, described_by, standing}
 use Rattle.amqp_to_value.specs.ValueSerializer.{HasParts, IsSaved, IsFresh, IsReady, Leaves, meant_by, ValuePermits}
-use Rattle.amqp_to_value.specs.ImageOf.{error_of, refuses, StandsFor}
+use Rattle.amqp_to_value.specs.ImageOf.{error_of, refuses, Represents}
 use Rattle.amqp_to_value.specs.Opened.{Opened}
 use Rattle.amqp_ser.specs.Meant.{meant}
 use Rattle.amqp_ser.specs.declared.pending.Pending.{Pending}
@@ -19,9 +19,9 @@ use Rattle.amqp_to_value.specs.declared.open_value.OpenBody.TheVariants as body
 use Rattle.amqp_to_value.specs.declared.serializer.Serializer.{Serializer}
 use Rattle.amqp_to_value.specs.declared.value_error.ValueError.{ValueError}
 use Rattle.amqp_to_value.specs.declared.value_error.ValueError.TheVariants as error
-use Rattle.amqp_to_value.proofs.PendingDescriptorLemmas.{refuses_in, stood}
+use Rattle.amqp_to_value.proofs.PendingDescriptorLemmas.{refuses_in, represents_inner}
 use Rattle.amqp_to_value.proofs.AnswerLemmas.{single_refused, kept_on, parted_again, refuses_too, second_refused}
-use Rattle.amqp_to_value.proofs.ValueSerializerLemmas.{plain_answer, refused}
+use Rattle.amqp_to_value.proofs.ValueSerializerLemmas.{unmarked_answer, refused}
 
 -- The intended tree of a single compound before its value.
 same_meant : (start before : Serializer) (u : Pending) (p : Option Tree) → IsReady start before (body.Single u None) → meant_by before p ≡ meant_by start p
@@ -38,7 +38,7 @@ refusal start before k (body.Single u (Some v)) (q ∷ []) p e h ready r rest =
 refusal start before k (body.Single u (Some v)) (q ∷ (s ∷ ps)) p e h ready r rest = absurd h.2
 refusal start before k (body.CollectedParts parts) ps p e h ready r rest =
     refuses_in (standing start.descriptors) (meant start.pending (tree_of_parts k (ps ++ (p ∷ rest)))) (error_of e)
-    (refused start.pending k ps p (error_of e) (plain_answer before (start.descriptors.kept ++ (standing start.descriptors)) p (Err e) ready r) rest)
+    (refused start.pending k ps p (error_of e) (unmarked_answer before (start.descriptors.kept ++ (standing start.descriptors)) p (Err e) ready r) rest)
 
 -- The descriptors that a failed part leaves.
 pub left_by_refusal : (start before now : Serializer) (b : OpenBody) (e : ValueError) → IsReady start before b → Leaves before.descriptors.kept (standing before.descriptors) (Err e) now
@@ -72,9 +72,9 @@ pub record Stood (start after : Serializer) (p : Option Tree) (v : Value) : Type
   pub within : tree_of v ≡ under_descriptors (standing start.descriptors) (image read)
   pub means : meant start.pending p ≡ Some tree
 
-pub stands : (start before after : Serializer) (u : Pending) (p : Option Tree) (v : Value) → IsReady start before (body.Single u None) → ValuePermits before p (Ok v) after → Stood start after p v
-stands start before after u p v ready r =
-    let s = stood (standing start.descriptors) (meant start.pending p) v (subst (StandsFor v) (same_meant start before u p ready) r.0) in
+pub represents : (start before after : Serializer) (u : Pending) (p : Option Tree) (v : Value) → IsReady start before (body.Single u None) → ValuePermits before p (Ok v) after → Stood start after p v
+represents start before after u p v ready r =
+    let s = represents_inner (standing start.descriptors) (meant start.pending p) v (subst (Represents v) (same_meant start before u p ready) r.0) in
     record {
       tree = s.0;
       read = s.1;
@@ -89,5 +89,5 @@ stands start before after u p v ready r =
 pub single_taken : (start after : Serializer) (k : CompoundKind) (u : Pending) (v : Value) (ps : List (Option Tree)) (p : Option Tree) (t w : Tree) → HasParts start.pending k (body.Single u None) ps
     → meant start.pending p ≡ Some t → Opened t w → after.pending ≡ pending.Marker marker.Other → (tree_of v ≡ image w) × (after.descriptors.kept ≡ start.descriptors.kept) × (after.descriptors.later ≡ standing start.descriptors) × (after.descriptors.next ≡ false)
     → HasParts start.pending k (body.Single u (Some v)) (ps ++ (p ∷ [])) × IsSaved start after
-single_taken start after k u v [] p t w h m o fresh is = ((h.0, h.1, subst (StandsFor v) (sym m) (w, o, is.0)), (((fresh, is.3), is.1), ([], is.2 ∙ sym (append-nil _))))
+single_taken start after k u v [] p t w h m o fresh is = ((h.0, h.1, subst (Represents v) (sym m) (w, o, is.0)), (((fresh, is.3), is.1), ([], is.2 ∙ sym (append-nil _))))
 single_taken start after k u v (q ∷ ps) p t w h m o fresh is = absurd h.2

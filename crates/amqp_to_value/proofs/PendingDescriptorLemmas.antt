@@ -12,11 +12,11 @@ use Rattle.amqp_value.specs.declared.value.Value.{Value, the_lemmas, out-Value, 
 use Rattle.amqp_value.specs.declared.value.Value.TheOpen.{Value-F}
 use Rattle.amqp_value.specs.declared.value.Value.TheVariants.{Described as DescribedValue}
 use Rattle.amqp_to_value.specs.PendingDescriptors.{DescriptorsState, descriptors_of, under_descriptors, described_by, standing}
-use Rattle.amqp_to_value.specs.ImageOf.{refuses, StandsFor}
+use Rattle.amqp_to_value.specs.ImageOf.{refuses, Represents}
 use Rattle.amqp_to_value.specs.Opened.{Opened}
 use Rattle.amqp_to_value.specs.ValueSerializer.{described_none}
 use Rattle.amqp_to_value.specs.declared.value_error.ValueError.{ValueError}
-use Rattle.amqp_to_value.proofs.LazyLemmas.{Lacks, spoils, unreadable_in}
+use Rattle.amqp_to_value.proofs.LazyLemmas.{Lacks, unreadable_whole, unreadable_in}
 use Rattle.amqp_to_value.proofs.OpenedLemmas.{opened_in, opened_inside}
 
 -- The descriptors after the kept ones begin with those of the next value.
@@ -47,18 +47,18 @@ described_by-Some [] t = refl
 described_by-Some (d ∷ ds) t = rw (described_by-Some ds t) refl
 
 -- A value inside descriptors represents the described tree.
-pub stands_in : (ds : List Descriptor) (o : Option Tree) (v w : Value) → tree_of w ≡ under_descriptors ds (tree_of v) → StandsFor v o → StandsFor w (described_by ds o)
-stands_in ds None v w is s = absurd s
-stands_in ds (Some t) v w is s =
-    subst (StandsFor w) (sym (described_by-Some ds t))
+pub represents_described : (ds : List Descriptor) (o : Option Tree) (v w : Value) → tree_of w ≡ under_descriptors ds (tree_of v) → Represents v o → Represents w (described_by ds o)
+represents_described ds None v w is s = absurd s
+represents_described ds (Some t) v w is s =
+    subst (Represents w) (sym (described_by-Some ds t))
     (under_descriptors ds s.0, opened_in ds t s.0 s.1, is ∙ ap (under_descriptors ds) s.2 ∙ sym (image-described_in ds s.0))
 
 -- A value that represents a described tree has the same descriptors.
-pub stood : (ds : List Descriptor) (o : Option Tree) (v : Value) → StandsFor v (described_by ds o)
+pub represents_inner : (ds : List Descriptor) (o : Option Tree) (v : Value) → Represents v (described_by ds o)
     → (t : Tree) × (u : Tree) × (o ≡ Some t) × Opened t u × (tree_of v ≡ under_descriptors ds (image u))
-stood ds None v s = absurd (subst (StandsFor v) (described_none ds) s)
-stood ds (Some t) v s =
-    let h = subst (StandsFor v) (described_by-Some ds t) s in
+represents_inner ds None v s = absurd (subst (Represents v) (described_none ds) s)
+represents_inner ds (Some t) v s =
+    let h = subst (Represents v) (described_by-Some ds t) s in
     let r = opened_inside ds t h.0 h.1 in
     (t, r.0, refl, r.2, h.2 ∙ ap image r.1 ∙ image-described_in ds r.0)
 
@@ -68,7 +68,7 @@ lacks_in ds (Some t) h = subst Lacks (sym (described_by-Some ds t)) (unreadable_
 
 -- An error that is permitted for a tree is permitted for the described tree.
 pub refuses_in : (ds : List Descriptor) (o : Option Tree) (e : Error) → refuses e o → refuses e (described_by ds o)
-refuses_in ds o e r = spoils e o (described_by ds o) (lacks_in ds o) r
+refuses_in ds o e r = unreadable_whole e o (described_by ds o) (lacks_in ds o) r
 
 -- All descriptors are the kept ones followed by the later ones.
 pub all_contents : (bs : List (Box (Described Value) Global)) (kept : ℕ) (others later : List Descriptor) → descriptors_of (take kept bs) ≡ others → descriptors_of (drop kept bs) ≡ later → descriptors_of bs ≡ others ++ later

@@ -4,18 +4,18 @@ use Rattle.amqp_ser.specs.Tree.{Tree, Trees, Pairs, scalar, list, array, map, de
 use Rattle.amqp_value.specs.Plain.{IsPlain, ArePlain, HasPlainPairs}
 use Rattle.amqp_to_value.specs.HasLazy.{has_lazy, has_lazy_each, has_lazy_pairs}
 use Rattle.amqp_to_value.specs.Opened.{Opened, AreOpened, HasOpenedPairs}
-use Rattle.amqp_decode.specs.Spells.{Spells}
-use Rattle.amqp_decode.proofs.Framed.{spells-frame}
-use Rattle.amqp_decode.proofs.OwnImage.{spelled-own_image}
+use Rattle.amqp_decode.specs.Encodes.{Encodes}
+use Rattle.amqp_decode.proofs.EncodedValues.{one-value}
+use Rattle.amqp_decode.proofs.OwnImage.{encoded-own_image}
 use Rattle.amqp_decode.proofs.Whole.{one-tree}
-use Rattle.amqp_frame.proofs.Whole.{frame_passes}
-use Rattle.amqp_ser.specs.Marked.{of_frame}
+use Rattle.amqp_frame.proofs.Whole.{encoded_value_passes}
+use Rattle.amqp_ser.specs.Marked.{of_encoded_value}
 use Rattle.amqp_value.specs.Image.{image}
 use Rattle.amqp_value.specs.Sound.{IsSound}
 use Rattle.amqp_value.specs.TreeOf.{tree_of}
 use Rattle.amqp_value.specs.declared.value.Value.{Value}
 use Rattle.amqp_value.proofs.SoundLemmas.{image-sound, sound-plain}
-use Rattle.amqp_to_value.specs.ImageOf.{StandsFor}
+use Rattle.amqp_to_value.specs.ImageOf.{Represents}
 
 first : (a b : Bool) → (a || b) ≡ false → a ≡ false
 first true b h = h
@@ -104,14 +104,14 @@ pub opened-same : (t u : Tree) → has_lazy t ≡ false → Opened t u → u ≡
 opened-same t u h o = one-opened t u t o (opened-itself t h)
 
 -- A value that represents a tree without lazy trees has its image.
-pub stands-image : (t : Tree) (v : Value) → has_lazy t ≡ false → StandsFor v (Some t) → tree_of v ≡ image t
-stands-image t v h s = s.2 ∙ ap image (opened-same t s.0 h s.1)
+pub represents-image : (t : Tree) (v : Value) → has_lazy t ≡ false → Represents v (Some t) → tree_of v ≡ image t
+represents-image t v h s = s.2 ∙ ap image (opened-same t s.0 h s.1)
 
-pub own : (a b : Value) → IsSound a → StandsFor b (Some (tree_of a)) → tree_of b ≡ tree_of a
-own a b sound s = stands-image (tree_of a) b (plain_not_lazy (tree_of a) (sound-plain a sound)) s ∙ image-sound a sound
+pub own : (a b : Value) → IsSound a → Represents b (Some (tree_of a)) → tree_of b ≡ tree_of a
+own a b sound s = represents-image (tree_of a) b (plain_not_lazy (tree_of a) (sound-plain a sound)) s ∙ image-sound a sound
 
--- A value that the bytes spell represents them as a lazy value.
-pub lazy_read : (v : Value) (bs : List ℕ) → Spells 256 bs (tree_of v) → StandsFor v (of_frame bs)
+-- A value that the bytes encode represents them as a lazy value.
+pub lazy_read : (v : Value) (bs : List ℕ) → Encodes 256 bs (tree_of v) → Represents v (of_encoded_value bs)
 lazy_read v bs h =
-    subst (λ b. StandsFor v (if b then Some (lazy bs) else None)) (sym (frame_passes bs (spells-frame h)))
-    (tree_of v, h, sym (spelled-own_image h))
+    subst (λ b. Represents v (if b then Some (lazy bs) else None)) (sym (encoded_value_passes bs (one-value h)))
+    (tree_of v, h, sym (encoded-own_image h))

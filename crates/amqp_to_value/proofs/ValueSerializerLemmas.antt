@@ -12,7 +12,7 @@ use Rattle.amqp_ser.proofs.Unmarked.{unmarked}
 use Rattle.amqp_value.specs.Image.{image}
 use Rattle.amqp_value.specs.TreeOf.{tree_of}
 use Rattle.amqp_value.specs.declared.value.Value.{Value}
-use Rattle.amqp_to_value.specs.ImageOf.{refuses, StandsFor, Answers}
+use Rattle.amqp_to_value.specs.ImageOf.{refuses, Represents, Answers}
 use Rattle.amqp_ser.specs.Meant.{meant, meant_none}
 use Rattle.amqp_to_value.specs.HeldImages.{is_single, then, HoldsImages, IsOpenedImage, compound_tree, TakesPairs}
 use Rattle.amqp_to_value.specs.Opened.{AreOpened}
@@ -28,7 +28,7 @@ use Rattle.amqp_to_value.specs.declared.value_error.ValueError.{ValueError}
 use Rattle.amqp_to_value.specs.declared.value_error.ValueError.TheVariants as error
 use Rattle.amqp_to_value.proofs.PendingDescriptorLemmas.{standing_none}
 use Rattle.amqp_to_value.proofs.HeldImagesLemmas.{join_then, all_trees-then}
-use Rattle.amqp_to_value.proofs.LazyLemmas.{Lacks, part_lacks, spoils}
+use Rattle.amqp_to_value.proofs.LazyLemmas.{Lacks, part_lacks, unreadable_whole}
 use Rattle.amqp_to_value.proofs.OpenedLemmas.{compound_opened, opened-last, opened-then, opened_answer, still_pairs}
 
 none-some : (t : Tree) → None ≡ Some t → ⊥
@@ -36,8 +36,8 @@ none-some t q = cc
 
 -- If nothing is pending, a result that is permitted for the intended tree is permitted for the
 -- tree.
-pub plain_answer : (s : Serializer) (ds : List Descriptor) (p : Option Tree) (r : Result Value ValueError) → IsKept ds s → Answers (meant_by s p) r → Answers p r
-plain_answer s ds p r kept is =
+pub unmarked_answer : (s : Serializer) (ds : List Descriptor) (p : Option Tree) (r : Result Value ValueError) → IsKept ds s → Answers (meant_by s p) r → Answers p r
+unmarked_answer s ds p r kept is =
     subst (λ o. Answers o r) (ap (λ ds. described_by ds (meant s.pending p)) (standing_none s.descriptors kept.0.1) ∙ ap (λ u. meant u p) kept.0.0 ∙ unmarked p) is
 
 -- If one part has no tree, the compound has none.
@@ -52,7 +52,7 @@ whole_lacks u kind ps (Some t) rest h = part_lacks u kind ps t rest h
 
 -- An error of a part is permitted for the compound, whatever parts follow.
 pub refused : (u : Pending) (kind : CompoundKind) (ps : List (Option Tree)) (p : Option Tree) (e : Error) → refuses e p → (rest : List (Option Tree)) → refuses e (meant u (tree_of_parts kind (ps ++ (p ∷ rest))))
-refused u kind ps p e r rest = spoils e p (meant u (tree_of_parts kind (ps ++ (p ∷ rest)))) (whole_lacks u kind ps p rest) r
+refused u kind ps p e r rest = unreadable_whole e p (meant u (tree_of_parts kind (ps ++ (p ∷ rest)))) (whole_lacks u kind ps p rest) r
 
 -- A kind other than `Single` is not single.
 pub not_single : (k : CompoundKind) → (k ≡ kinds.Single → ⊥) → is_single k ≡ false
@@ -64,29 +64,29 @@ not_single (kinds.NewtypeVariant i) h = refl
 
 -- A compound without parts.
 pub nothing_held : (u : Pending) (k : CompoundKind) (parts : CollectedParts) → HoldsImages parts no_trees → ((o : Option Trees) → meant u (as_kind k o) ≡ compound_tree parts o) → HoldsParts u k parts []
-nothing_held u k parts fed makes = record { ts = no_trees; trees = refl; us = no_trees; opened = refl; fed = fed; makes = makes }
+nothing_held u k parts accepted makes = record { ts = no_trees; trees = refl; us = no_trees; opened = refl; accepted = accepted; makes = makes }
 
 module _ (u : Pending) (kind : CompoundKind) (old new : CollectedParts) (ps : List (Option Tree)) (h : HoldsParts u kind old ps) (makes : (o : Option Trees) → compound_tree new o ≡ compound_tree old o) where
   -- The parts are the same.
   kept : HoldsImages new h.us → HoldsParts u kind new ps
-  kept fed = record { ts = h.ts; trees = h.trees; us = h.us; opened = h.opened; fed = fed; makes = λ o. h.makes o ∙ sym (makes o) }
+  kept accepted = record { ts = h.ts; trees = h.trees; us = h.us; opened = h.opened; accepted = accepted; makes = λ o. h.makes o ∙ sym (makes o) }
 
   -- One part is added.
-  pub part_taken : (p : Option Tree) (v : Value) → StandsFor v p → ((ts : Trees) (t : Tree) → HoldsImages old ts → tree_of v ≡ image t → HoldsImages new (then ts t)) → HoldsParts u kind new (ps ++ (p ∷ []))
+  pub part_taken : (p : Option Tree) (v : Value) → Represents v p → ((ts : Trees) (t : Tree) → HoldsImages old ts → tree_of v ≡ image t → HoldsImages new (then ts t)) → HoldsParts u kind new (ps ++ (p ∷ []))
   part_taken None v s step = absurd s
   part_taken (Some t) v s step = record {
     ts = then h.ts t;
     trees = all_trees-then ps h.ts t h.trees;
     us = then h.us s.0;
     opened = opened-then h.ts h.us t s.0 h.opened s.1;
-    fed = step h.us s.0 h.fed s.2;
+    accepted = step h.us s.0 h.accepted s.2;
     makes = λ o. h.makes o ∙ sym (makes o);
   }
 
   -- No part is added.
-  pub part_left : (p : Option Tree) (v : Value) → StandsFor v p → ((ts : Trees) (t : Tree) → HoldsImages old ts → tree_of v ≡ image t → HoldsImages new ts) → HoldsParts u kind new ps
+  pub part_left : (p : Option Tree) (v : Value) → Represents v p → ((ts : Trees) (t : Tree) → HoldsImages old ts → tree_of v ≡ image t → HoldsImages new ts) → HoldsParts u kind new ps
   part_left None v s step = absurd s
-  part_left (Some t) v s step = kept (step h.us s.0 h.fed s.2)
+  part_left (Some t) v s step = kept (step h.us s.0 h.accepted s.2)
 
 -- A compound of kind map takes keys and values in turn.
 takes_pairs : (u : Pending) (o : CollectedParts) → ((ts : Option Trees) → meant u (as_kind kinds.Map ts) ≡ compound_tree o ts) → TakesPairs o
@@ -120,7 +120,7 @@ undone u old new ps p h even makes back =
       trees = last.2;
       us = read.0;
       opened = read.3;
-      fed = back read.0 still.0 read.1 still.1 (takes_pairs u old h.makes) (subst (HoldsImages old) read.2 h.fed);
+      accepted = back read.0 still.0 read.1 still.1 (takes_pairs u old h.makes) (subst (HoldsImages old) read.2 h.accepted);
       makes = λ o. h.makes o ∙ sym (makes o);
     }
 
@@ -131,7 +131,7 @@ unfolding tree_of_parts
 single_answer u None r [] h c e = absurd (true≢false (sym c))
 single_answer u None r (p ∷ ps) h c e = absurd h
 single_answer u (Some v) r [] h c e = absurd h
-single_answer u (Some v) r (None ∷ []) h c e = absurd (subst (StandsFor v) (meant_none u) h)
+single_answer u (Some v) r (None ∷ []) h c e = absurd (subst (Represents v) (meant_none u) h)
 single_answer u (Some v) r (Some t ∷ []) h c e = subst (Answers (meant u (Some t))) (sym e) h
 single_answer u (Some v) r (p ∷ (q ∷ ps)) h c e = absurd h
 
@@ -147,4 +147,4 @@ pub parts_value : (u : Pending) (k : CompoundKind) (parts : CollectedParts) (r :
 unfolding tree_of_parts
 parts_value u k parts r ps h gives =
     subst (λ o. Answers o r) (sym (h.makes (Some h.ts)) ∙ ap (λ o. meant u (as_kind k o)) (sym h.trees))
-    (opened_answer (compound_tree parts (Some h.ts)) (compound_tree parts (Some h.us)) r (compound_opened parts h.ts h.us h.opened) (gives h.us h.fed))
+    (opened_answer (compound_tree parts (Some h.ts)) (compound_tree parts (Some h.us)) r (compound_opened parts h.ts h.us h.opened) (gives h.us h.accepted))

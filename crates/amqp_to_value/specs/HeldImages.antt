@@ -27,25 +27,25 @@ abbrev pub held_pairs : OpenMap → Pairs × Option Tree
 held_pairs g = (collected_pairs g.pairs, option_map tree_of g.key)
 
 -- Adds a key, or the value of the pending key.
-abbrev pub feed : Pairs × Option Tree → Tree → Pairs × Option Tree
-feed compound t = by compound.1
+abbrev pub add_tree : Pairs × Option Tree → Tree → Pairs × Option Tree
+add_tree compound t = by compound.1
   where
     by : Option Tree → Pairs × Option Tree
     by None = (compound.0, Some t)
     by (Some k) = (insert_tree compound.0 k t, None)
 
 -- The entries and the pending key after keys and values in turn.
-abbrev pub fed_onto : Trees → Pairs → Pairs × Option Tree
-fed_onto no_trees done = (done, None)
-fed_onto (more k no_trees) done = (done, Some (image k))
-fed_onto (more k (more v ts)) done = fed_onto ts (insert_tree done (image k) (image v))
+abbrev pub added_onto : Trees → Pairs → Pairs × Option Tree
+added_onto no_trees done = (done, None)
+added_onto (more k no_trees) done = (done, Some (image k))
+added_onto (more k (more v ts)) done = added_onto ts (insert_tree done (image k) (image v))
 
 -- The compound contains the images of these trees, in order.
 abbrev pub HoldsImages : CollectedParts → Trees → Type 0
 HoldsImages (compound.List v) ts = all_of v.items ≡ images ts
 HoldsImages (compound.Array v) ts = all_of v.items ≡ images ts
 HoldsImages (compound.Transparent v) ts = all_of v.items ≡ images ts
-HoldsImages (compound.Map g) ts = held_pairs g ≡ fed_onto ts no_pairs
+HoldsImages (compound.Map g) ts = held_pairs g ≡ added_onto ts no_pairs
 HoldsImages (compound.Variant i v) ts = all_of v.items ≡ images ts
 HoldsImages (compound.NewtypeVariant i v) ts = all_of v.items ≡ images ts
 HoldsImages compound.Refused ts = Unit {0}

@@ -1,5 +1,5 @@
 -- The results that are permitted for a tree, or for none: an untyped value whose tree is the image,
--- with each lazy tree replaced by the value that its bytes spell.
+-- with each lazy tree replaced by the value that its bytes encode.
 use Rattle.std.specs.Prelude.{◌≡◌, Option, Some, None, Result, Ok, Err}
 use Rattle.amqp_data.specs.declared.error.Error.{Error}
 use Rattle.amqp_data.specs.declared.error.Error.TheVariants as error
@@ -12,9 +12,9 @@ use Rattle.amqp_to_value.specs.declared.value_error.ValueError.{ValueError}
 use Rattle.amqp_to_value.specs.declared.value_error.ValueError.TheVariants as value_error
 
 -- The value represents the tree: its tree is the image, after the lazy trees are read.
-abbrev pub StandsFor : Value → Option Tree → Type 0
-StandsFor v None = ⊥
-StandsFor v (Some t) = (u : Tree) × Opened t u × (tree_of v ≡ image u)
+abbrev pub Represents : Value → Option Tree → Type 0
+Represents v None = ⊥
+Represents v (Some t) = (u : Tree) × Opened t u × (tree_of v ≡ image u)
 
 -- The errors of a value or of the bytes of a lazy tree: an invalid value, an invalid format code,
 -- or an unexpected end of the bytes.
@@ -25,7 +25,7 @@ IsFault error.UnexpectedEof = Unit {0}
 IsFault e = ⊥
 
 -- Out of memory is permitted for any tree. A fault is permitted if there is no tree, or if a lazy
--- tree spells no value. No other error is permitted.
+-- tree encodes no value. No other error is permitted.
 abbrev pub refuses : Error → Option Tree → Type 0
 refuses error.OutOfMemory t = Unit {0}
 refuses e None = IsFault e
@@ -33,7 +33,7 @@ refuses e (Some t) = IsFault e × IsUnreadable t
 
 -- The result is a value that represents the tree, or a permitted error.
 abbrev pub IsImageOf : Option Tree → Result Value Error → Type 0
-IsImageOf t (Ok v) = StandsFor v t
+IsImageOf t (Ok v) = Represents v t
 IsImageOf t (Err e) = refuses e t
 
 -- The error as which public functions return it.
@@ -45,5 +45,5 @@ error_of value_error.UnexpectedEof = error.UnexpectedEof
 
 -- Like `IsImageOf`, for a result of the serializer.
 abbrev pub Answers : Option Tree → Result Value ValueError → Type 0
-Answers t (Ok v) = StandsFor v t
+Answers t (Ok v) = Represents v t
 Answers t (Err e) = refuses (error_of e) t

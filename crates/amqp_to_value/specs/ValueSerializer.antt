@@ -9,7 +9,7 @@ use Rattle.amqp_ser.specs.declared.kind.CompoundKind.TheVariants as kind
 use Rattle.amqp_ser.specs.declared.marker.Marker.TheVariants as marker
 use Rattle.amqp_value.specs.declared.value.Value.{Value}
 use Rattle.amqp_to_value.specs.PendingDescriptors.{saved_of, described_by, standing}
-use Rattle.amqp_to_value.specs.ImageOf.{Answers, StandsFor}
+use Rattle.amqp_to_value.specs.ImageOf.{Answers, Represents}
 use Rattle.amqp_to_value.specs.Opened.{AreOpened}
 use Rattle.amqp_ser.specs.Meant.{meant, meant_none}
 use Rattle.amqp_to_value.specs.HeldImages.{HoldsImages, is_single, compound_tree}
@@ -58,7 +58,7 @@ pub record HoldsParts (pending : Pending) (kind : CompoundKind) (compound : Coll
   -- The same trees, after their lazy trees are read.
   pub us : Trees
   pub opened : AreOpened ts us
-  pub fed : HoldsImages compound us
+  pub accepted : HoldsImages compound us
   pub makes : (o : Option Trees) → meant pending (as_kind kind o) ≡ compound_tree compound o
 
 -- A single compound has no value and no part, or one part and its value.
@@ -66,7 +66,7 @@ abbrev pub HasValue : Pending → Option Value → List (Option Tree) → Type 0
 HasValue u None [] = Unit {0}
 HasValue u None (p ∷ ps) = ⊥
 HasValue u (Some v) [] = ⊥
-HasValue u (Some v) (p ∷ []) = StandsFor v (meant u p)
+HasValue u (Some v) (p ∷ []) = Represents v (meant u p)
 HasValue u (Some v) (p ∷ (q ∷ ps)) = ⊥
 
 -- The compound, opened under this pending marker, can contain these parts.
@@ -110,4 +110,4 @@ described_none (d ∷ ds) = ap (as_described (Some d)) (described_none ds)
 -- If there is no tree, there is no value.
 pub no_value_of_none : (s : Serializer) (v : Value) (after : Serializer) → ValuePermits s None (Ok v) after → ⊥
 no_value_of_none s v after h =
-    let none : meant_by s None ≡ None = ap (described_by (standing s.descriptors)) (meant_none s.pending) ∙ described_none (standing s.descriptors) in subst (StandsFor v) none h.0
+    let none : meant_by s None ≡ None = ap (described_by (standing s.descriptors)) (meant_none s.pending) ∙ described_none (standing s.descriptors) in subst (Represents v) none h.0

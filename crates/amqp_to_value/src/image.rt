@@ -18,11 +18,11 @@ use std::alloc::Global;
 /// one entry, from its index as a uint to its payload. A transparent vector becomes the list of its
 /// elements. The entries of a map are inserted in order: a repeated key keeps its position and gets
 /// the new value. So no map in the result has a key twice, and the result is sound. A lazy value,
-/// at any depth, becomes the value that its bytes spell, which is at most 256 deep.
+/// at any depth, becomes the value that its bytes encode, which is at most 256 deep.
 ///
 /// # Errors
 /// Returns `Error::OutOfMemory` if an allocation fails. Otherwise returns an error if and only if
-/// the argument has no tree, or a lazy value in it spells no value: the error of `decode_value` for
+/// the argument has no tree, or a lazy value in it encodes no value: the error of `decode_value` for
 /// the bytes of a lazy value, and `Error::InvalidValue` in other cases.
 ///
 /// # Memory

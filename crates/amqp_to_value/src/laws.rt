@@ -4,7 +4,7 @@
 //! the law.
 
 ghost use Rattle.std.specs.Prelude.{◌≡◌, List, ℕ, Some, false, true};
-ghost use Rattle.amqp_decode.specs.Spells.{Spells};
+ghost use Rattle.amqp_decode.specs.Encodes.{Encodes};
 ghost use Rattle.amqp_ser.specs.Encoding.{encoding};
 ghost use Rattle.amqp_ser.specs.Tree.{Scalar, Tree, lazy, scalar};
 ghost use Rattle.amqp_ser.specs.Writable.{writable};
@@ -14,7 +14,7 @@ ghost use Rattle.amqp_value.specs.Sound.{IsSound};
 ghost use Rattle.amqp_value.specs.TreeOf.{tree_of};
 ghost use Rattle.amqp_value.specs.Image.{image};
 ghost use Rattle.amqp_to_value.specs.HasLazy.{has_lazy};
-ghost use Rattle.amqp_to_value.specs.ImageOf.{StandsFor};
+ghost use Rattle.amqp_to_value.specs.ImageOf.{Represents};
 ghost use Rattle.amqp_to_value.specs.Opened.{Opened};
 
 use amqp_value::Value;
@@ -33,11 +33,11 @@ pub fn trees_without_lazy_parts_are_read_as_themselves()
 ///
 /// # Memory
 /// None.
-pub fn trees_without_lazy_parts_stand_as_their_images()
-    ensures image { (t : Tree) (v : Value) → has_lazy t ≡ false → StandsFor v (Some t) →
+pub fn images_represent_trees_without_lazy_parts()
+    ensures image { (t : Tree) (v : Value) → has_lazy t ≡ false → Represents v (Some t) →
         tree_of v ≡ image t }
-    ensures stands { (t : Tree) (v : Value) → has_lazy t ≡ false → tree_of v ≡ image t →
-        StandsFor v (Some t) }
+    ensures represents { (t : Tree) (v : Value) → has_lazy t ≡ false → tree_of v ≡ image t →
+        Represents v (Some t) }
 {}
 
 /// All values that represent a tree have the same tree.
@@ -45,19 +45,19 @@ pub fn trees_without_lazy_parts_stand_as_their_images()
 /// # Memory
 /// None.
 pub fn one_value_stands_for_a_tree()
-    ensures { (t : Tree) (v w : Value) → StandsFor v (Some t) → StandsFor w (Some t) →
+    ensures { (t : Tree) (v w : Value) → Represents v (Some t) → Represents w (Some t) →
         tree_of v ≡ tree_of w }
 {}
 
-/// A value represents a lazy value if and only if the bytes spell it, at most 256 deep.
+/// A value represents a lazy value if and only if the bytes encode it, at most 256 deep.
 ///
 /// # Memory
 /// None.
-pub fn lazy_values_stand_as_what_they_spell()
-    ensures spelled { (bytes : List ℕ) (v : Value) → StandsFor v (Some (lazy bytes)) →
-        Spells 256 bytes (tree_of v) }
-    ensures stands { (bytes : List ℕ) (v : Value) → Spells 256 bytes (tree_of v) →
-        StandsFor v (Some (lazy bytes)) }
+pub fn lazy_values_represent_what_they_encode()
+    ensures encoded { (bytes : List ℕ) (v : Value) → Represents v (Some (lazy bytes)) →
+        Encodes 256 bytes (tree_of v) }
+    ensures represents { (bytes : List ℕ) (v : Value) → Encodes 256 bytes (tree_of v) →
+        Represents v (Some (lazy bytes)) }
 {}
 
 /// The tree of a value that represents a plain tree is that tree with each variant replaced by its
@@ -66,7 +66,7 @@ pub fn lazy_values_stand_as_what_they_spell()
 /// # Memory
 /// None.
 pub fn plain_trees_come_back()
-    ensures { (t : Tree) (v : Value) → IsPlain t → StandsFor v (Some t) →
+    ensures { (t : Tree) (v : Value) → IsPlain t → Represents v (Some t) →
         tree_of v ≡ read_as_map t }
 {}
 
@@ -76,9 +76,9 @@ pub fn plain_trees_come_back()
 /// # Memory
 /// None.
 pub fn plain_trees_keep_their_bytes()
-    ensures writable { (t : Tree) (v : Value) → IsPlain t → StandsFor v (Some t) →
+    ensures writable { (t : Tree) (v : Value) → IsPlain t → Represents v (Some t) →
         writable (tree_of v) ≡ writable t }
-    ensures bytes { (t : Tree) (v : Value) → IsPlain t → StandsFor v (Some t) →
+    ensures bytes { (t : Tree) (v : Value) → IsPlain t → Represents v (Some t) →
         encoding (tree_of v) ≡ encoding t }
 {}
 
@@ -87,9 +87,9 @@ pub fn plain_trees_keep_their_bytes()
 /// # Memory
 /// None.
 pub fn sound_values_come_back_equal()
-    ensures tree { (a b : Value) → IsSound a → StandsFor b (Some (tree_of a)) →
+    ensures tree { (a b : Value) → IsSound a → Represents b (Some (tree_of a)) →
         tree_of b ≡ tree_of a }
-    ensures equal { (a b : Value) → IsSound a → StandsFor b (Some (tree_of a)) →
+    ensures equal { (a b : Value) → IsSound a → Represents b (Some (tree_of a)) →
         ⟦<Value as PartialEq>⟧.eq b a ≡ true }
 {}
 
@@ -99,6 +99,6 @@ pub fn sound_values_come_back_equal()
 /// # Memory
 /// None.
 pub fn scalars_keep_their_content()
-    ensures { (s : Scalar) (a b : Value) → tree_of a ≡ scalar s → StandsFor b (Some (scalar s))
+    ensures { (s : Scalar) (a b : Value) → tree_of a ≡ scalar s → Represents b (Some (scalar s))
         → ⟦<Value as PartialEq>⟧.eq b a ≡ true }
 {}

@@ -6,7 +6,7 @@
 //!
 //! A plain value and its image have the same encoding. Of other values the encodings can differ:
 //! the image of a transparent vector is a list, a map keeps one of two keys with the same image,
-//! and the bytes of a lazy value can be longer than the encoding of the value that they spell.
+//! and the bytes of a lazy value can be longer than the encoding of the value that they encode.
 #![tactic(auto)]
 
 mod compounds;

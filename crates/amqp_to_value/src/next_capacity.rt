@@ -7,13 +7,13 @@ use std::mem;
 
 // The least and the greatest capacity that is reserved: twice that of a list of one value, and that
 // of 4,096 bytes.
-const LEAST: usize = 8;
+const MIN_CAPACITY: usize = 8;
 
-const GREATEST: usize = 128;
+const MAX_CAPACITY: usize = 128;
 
 // The maximum number of lists for which a capacity is reserved while they are open together, one in
 // the other.
-const MOST_OPEN: usize = 4;
+const MAX_OPEN: usize = 4;
 
 /// The capacity that is reserved for the next list, from those of the lists before it.
 ///
@@ -28,7 +28,7 @@ const MOST_OPEN: usize = 4;
 pub struct NextCapacity {
     // The capacity for the next list, or 0 to let it grow.
     next: usize,
-    // The capacity of the last list, or 0 if it is less than `LEAST`; and the number of lists
+    // The capacity of the last list, or 0 if it is less than `MIN_CAPACITY`; and the number of lists
     // before it, one after another, that had the same.
     last: usize,
     equal: usize,
@@ -77,7 +77,7 @@ impl NextCapacity {
             if self.open != 0 {
                 self.open = self.open.saturating_add(1);
             }
-            if next >= LEAST && self.open <= MOST_OPEN && items.reserve_exact(next).is_ok() {
+            if next >= MIN_CAPACITY && self.open <= MAX_OPEN && items.reserve_exact(next).is_ok() {
                 self.open = self.open.max(1);
                 return true;
             }
@@ -92,7 +92,7 @@ impl NextCapacity {
         ensures { result.items ≡ items.items }
     {
         self.open = self.open.saturating_sub(items.capacity().min(1));
-        if items.capacity() < LEAST {
+        if items.capacity() < MIN_CAPACITY {
             self.next = 0;
             self.last = 0;
             items
@@ -118,7 +118,7 @@ impl NextCapacity {
             0
         };
         self.last = capacity;
-        self.next = if self.equal >= self.needed && capacity <= GREATEST {
+        self.next = if self.equal >= self.needed && capacity <= MAX_CAPACITY {
             capacity
         } else {
             0

@@ -4,7 +4,7 @@ ghost use Rattle.std.specs.Prelude.{◌≡◌, MatchResult, None};
 ghost use Rattle.amqp_ser.specs.Tree.{Trees, no_pairs};
 ghost use Rattle.amqp_ser.specs.Compounds.{as_map, in_pairs};
 ghost use Rattle.amqp_value.specs.TreeOf.{tree_of};
-ghost use Rattle.amqp_to_value.specs.HeldImages.{held_pairs, feed, fed_onto, IsOpenedImage};
+ghost use Rattle.amqp_to_value.specs.HeldImages.{held_pairs, add_tree, added_onto, IsOpenedImage};
 
 use crate::value_error::ValueError;
 use amqp_value::{MapBuilder, Value};
@@ -36,7 +36,7 @@ impl OpenMap {
     #[inline(never)]
     pub fn add_part(&mut self, part: Value) -> Result<(), AllocError>
         ensures { MatchResult result
-            (λ _. held_pairs self.new ≡ feed (held_pairs self.old) (tree_of part))
+            (λ _. held_pairs self.new ≡ add_tree (held_pairs self.old) (tree_of part))
             (λ _. held_pairs self.new ≡ held_pairs self.old) }
     {
         match self.key.take() {
@@ -70,7 +70,7 @@ impl OpenMap {
     /// allocation fails, which can happen only if the keys do not ascend.
     #[inline(never)]
     pub fn into_value(self, alloc: Global) -> Result<Value, ValueError>
-        ensures { (ts : Trees) → held_pairs self ≡ fed_onto ts no_pairs →
+        ensures { (ts : Trees) → held_pairs self ≡ added_onto ts no_pairs →
             IsOpenedImage (as_map (in_pairs ts)) result }
     {
         match self.key {

@@ -85,7 +85,7 @@ impl CollectedParts {
             CollectedParts::Variant(_, items) => gather_field(items, part),
             CollectedParts::NewtypeVariant(_, items) => gather_field(items, part),
             CollectedParts::Refused => {
-                let_go(part);
+                drop_value(part);
                 Ok(())
             }
         }
@@ -156,7 +156,7 @@ fn gather(
         (λ _. items.new.items ≡ items.old.items) }
 {
     if items.len() == items.capacity() && !capacity.grow(items) {
-        let_go(value);
+        drop_value(value);
         return Err(AllocError);
     }
     items.push_reserved(value);
@@ -171,7 +171,7 @@ fn gather_field(items: &mut Vec<Value>, value: Value) -> Result<(), AllocError>
         (λ _. items.new.items ≡ items.old.items) }
 {
     if items.len() == items.capacity() && items.reserve(1).is_err() {
-        let_go(value);
+        drop_value(value);
         return Err(AllocError);
     }
     items.push_reserved(value);
@@ -180,7 +180,7 @@ fn gather_field(items: &mut Vec<Value>, value: Value) -> Result<(), AllocError>
 
 /// Drops a value. Never inlined, to keep the drop out of the path of values that are kept.
 #[inline(never)]
-pub fn let_go(value: Value) {
+pub fn drop_value(value: Value) {
     drop(value);
 }
 

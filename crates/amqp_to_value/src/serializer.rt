@@ -9,7 +9,7 @@ ghost use Rattle.amqp_ser.specs.Meant.{meant};
 
 use crate::next_capacity::NextCapacity;
 use crate::open_value::{OpenBody, OpenValue, set_first};
-use crate::parts::let_go;
+use crate::parts::drop_value;
 use crate::pending_descriptors::PendingDescriptors;
 use crate::scalars::{descriptor_from, marked_bytes, marked_fixed, marked_text};
 use crate::value_error::ValueError;
@@ -21,7 +21,7 @@ use std::mem;
 /// A serializer that returns untyped values.
 ///
 /// After each call, failed or not, no marker or descriptor is pending. A binary under the marker
-/// `LAZY_VALUE` must be one encoded value; it becomes the value that its bytes spell.
+/// `LAZY_VALUE` must be one encoded value; it becomes the value that its bytes encode.
 ///
 /// # Errors
 /// Methods return a [`ValueError`] of one byte, which `?` converts to `Error`.
@@ -190,7 +190,7 @@ impl amqp_ser::Serializer for Serializer {
                     Ok(())
                 }
                 Some(_) => {
-                    let_go(value);
+                    drop_value(value);
                     Err(ValueError::InvalidValue)
                 }
             },

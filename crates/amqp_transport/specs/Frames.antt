@@ -3,7 +3,7 @@
 use Rattle.std.specs.Prelude.{◌≡◌, ◌≤◌, ◌<◌, ◌*◌, ◌+◌, ◌⊎◌, ℕ, List, ◌∷◌, ◌++◌, length, Option, Some, None}
 use Rattle.std.specs.Int.{w16, w32, to_be_bytes}
 use Rattle.amqp_data.specs.declared.error.Error.TheVariants.{OutOfMemory}
-use Rattle.amqp_frame.specs.Frame.{IsFrame, HasFrame}
+use Rattle.amqp_frame.specs.EncodedValue.{IsEncodedValue, HasEncodedValue}
 use Rattle.amqp_from_value.specs.Limited.{ReadsAllowed, limits_for}
 use Rattle.amqp_from_value.specs.LocatedErrors.{IsLocatedWithin, error_in}
 use Rattle.amqp_from_value.specs.declared.limited.Limits.{Limits}
@@ -43,13 +43,13 @@ RefusesFrame limit s e = Begins (λ size offset. RefusesHeader limit size offset
 -- its length, and the payload.
 abbrev pub ReadsBody : {T : Type 0} → Option Limits → (Tree → T → Type 0) → List ℕ → T → List ℕ → Type 0
 ReadsBody limits R body x payload =
-    (bytes : List ℕ) × (body ≡ bytes ++ payload) × IsFrame bytes × ReadsAllowed R (limits_for limits bytes) bytes x
+    (bytes : List ℕ) × (body ≡ bytes ++ payload) × IsEncodedValue bytes × ReadsAllowed R (limits_for limits bytes) bytes x
 
 -- Why no performative is read from the body.
 abbrev pub RefusesBody : {T : Type 0} → Option Limits → (Tree → T → Type 0) → List ℕ → FrameError → Type 0
-RefusesBody limits R body error.NoPerformative = ¬ HasFrame body
+RefusesBody limits R body error.NoPerformative = ¬ HasEncodedValue body
 RefusesBody {T} limits R body (error.Performative e) =
-    (bytes payload : List ℕ) × (body ≡ bytes ++ payload) × IsFrame bytes × IsLocatedWithin (limits_for limits bytes) bytes e
+    (bytes payload : List ℕ) × (body ≡ bytes ++ payload) × IsEncodedValue bytes × IsLocatedWithin (limits_for limits bytes) bytes e
     × ((error_in e ≡ OutOfMemory) ⊎ ((x : T) → ¬ ReadsAllowed R (limits_for limits bytes) bytes x))
 RefusesBody limits R body e = ⊥
 

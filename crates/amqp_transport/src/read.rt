@@ -1,7 +1,7 @@
 //! Frames at the start of bytes.
 
 ghost use Rattle.std.specs.Prelude.{◌≡◌, ◌≤◌, ◌++◌, None, IfOk, IfErr, IfSome, IfNone, length};
-ghost use Rattle.amqp_frame.specs.Frame.{IsFrame, HasFrame};
+ghost use Rattle.amqp_frame.specs.EncodedValue.{IsEncodedValue, HasEncodedValue};
 ghost use Rattle.amqp_transport.specs.Frames.{header_bytes, HasLengths, ReadsBody, RefusesBody, RefusesFrame};
 
 use crate::error::FrameError;
@@ -71,8 +71,8 @@ impl<'a> Frame<'a> {
     /// # Example
     /// The body `0053174501` gives `00531745` and the payload `01`. An empty body gives `None`.
     pub fn split_body(&self) -> Option<(&'a [u8], &'a [u8])>
-        ensures some { IfSome result (λ r. IsFrame r.0.now × (self.now.body.now ≡ r.0.now ++ r.1.now)) }
-        ensures none { IfNone result (¬ HasFrame self.now.body.now) }
+        ensures some { IfSome result (λ r. IsEncodedValue r.0.now × (self.now.body.now ≡ r.0.now ++ r.1.now)) }
+        ensures none { IfNone result (¬ HasEncodedValue self.now.body.now) }
     {
         match frame_len(self.body) {
             Some(len) => Some(self.body.split_at(len)),

@@ -74,9 +74,9 @@ run_grows bs from to end low high before plain =
     ∙ ap (λ (n : ℕ). flat_map byte_escaped (take from bs) ++ take n (drop from bs)) rest
 
 -- a run of one byte without an escape
-pub one_plain : (bs : List ℕ) (i : ℕ) → i < length bs → byte_escaped (get_or bs i 0) ≡ get_or bs i 0 ∷ []
+pub one_unescaped : (bs : List ℕ) (i : ℕ) → i < length bs → byte_escaped (get_or bs i 0) ≡ get_or bs i 0 ∷ []
     → flat_map byte_escaped (take (i + 1 - i) (drop i bs)) ≡ take (i + 1 - i) (drop i bs)
-one_plain bs i inside plain =
+one_unescaped bs i inside plain =
     let one : 1 ≡ i + 1 - i = omega arith in
     let first : take 1 (drop i bs) ≡ get_or bs i 0 ∷ [] = ap (take 1) (drop_more bs i 0 inside) in
     let fact : flat_map byte_escaped (take 1 (drop i bs)) ≡ take 1 (drop i bs) =
@@ -91,7 +91,7 @@ run_starts bs i inside plain =
     let start : flat_map byte_escaped (take i bs) ≡ flat_map byte_escaped (take i bs) ++ take 0 (drop i bs) = sym (append-nil (flat_map byte_escaped (take i bs))) in
     run_grows bs i i (i + 1) (omega arith) (omega arith)
     (subst (λ (n : ℕ). flat_map byte_escaped (take i bs) ≡ flat_map byte_escaped (take i bs) ++ take n (drop i bs)) none start)
-    (one_plain bs i inside plain)
+    (one_unescaped bs i inside plain)
 
 -- what is written after a run
 pub run_text : (bs text piece : List ℕ) (from to : ℕ) → bs ≡ text → piece ≡ take (to - from) (drop from text)

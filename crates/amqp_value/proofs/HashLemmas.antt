@@ -2,7 +2,7 @@
 use Rattle.std.proofs.Common.{pos, ◌≡◌, ◌∙◌, ◌<◌, ◌^◌, ℕ, List, [], ◌∷◌, ◌++◌, String, string_bytes, refl, sym, ap}
 use Rattle.std.proofs.lemmas.Nat.{from_le_bytes-to_le_bytes_4, from_le_bytes-to_le_bytes_8}
 use Rattle.std.specs.Global.{Global}
-use Rattle.std.specs.Hash as fed
+use Rattle.std.specs.Hash as hashed
 use Rattle.std.specs.Hash.{le_bytes}
 use Rattle.std.specs.Int.{w32, w64, from_le_bytes}
 use Rattle.std.specs.List.{flat_map}
@@ -15,26 +15,26 @@ use Rattle.amqp_value.specs.declared.value.Value.TheVariants as kind
 use Rattle.amqp_value.specs.contracts.value.ValueHash.TheImpl as hash
 use Rattle.amqp_value.specs.contracts.value.ValueHash.TheImpl.Laws as laws
 
-abbrev pub input : Value → fed.HashWrites
+abbrev pub input : Value → hashed.HashWrites
 input v = hash.ghosts.hash_input v
 
-of_string : (a : String Global) → input (kind.String a) ≡ fed.isize (pos 20) ++ fed.str (string_bytes a)
+of_string : (a : String Global) → input (kind.String a) ≡ hashed.isize (pos 20) ++ hashed.str (string_bytes a)
 unfolding Rattle.amqp_value.specs.declared.value.Value.TheViews.out-Value denote.Hole.Carrier.out
 of_string a = laws.is (kind.String a) (kind.String a)
 
-of_symbol : (a : Symbol) → input (kind.Symbol a) ≡ fed.isize (pos 21) ++ fed.str (symbol_text a)
+of_symbol : (a : Symbol) → input (kind.Symbol a) ≡ hashed.isize (pos 21) ++ hashed.str (symbol_text a)
 unfolding Rattle.amqp_value.specs.declared.value.Value.TheViews.out-Value denote.Hole.Carrier.out
 of_symbol a = laws.is (kind.Symbol a) (kind.Symbol a)
 
-of_binary : (a : ByteBuf) → input (kind.Binary a) ≡ fed.isize (pos 19) ++ fed.slice fed.u8 (byte_buf_bytes a)
+of_binary : (a : ByteBuf) → input (kind.Binary a) ≡ hashed.isize (pos 19) ++ hashed.slice hashed.u8 (byte_buf_bytes a)
 unfolding Rattle.amqp_value.specs.declared.value.Value.TheViews.out-Value denote.Hole.Carrier.out
 of_binary a = laws.is (kind.Binary a) (kind.Binary a)
 
-of_uint : (n : ℕ) → input (kind.Uint n) ≡ fed.isize (pos 5) ++ fed.u32 n
+of_uint : (n : ℕ) → input (kind.Uint n) ≡ hashed.isize (pos 5) ++ hashed.u32 n
 unfolding Rattle.amqp_value.specs.declared.value.Value.TheViews.out-Value denote.Hole.Carrier.out
 of_uint n = laws.is (kind.Uint n) (kind.Uint n)
 
-of_ulong : (n : ℕ) → input (kind.Ulong n) ≡ fed.isize (pos 6) ++ fed.u64 n
+of_ulong : (n : ℕ) → input (kind.Ulong n) ≡ hashed.isize (pos 6) ++ hashed.u64 n
 unfolding Rattle.amqp_value.specs.declared.value.Value.TheViews.out-Value denote.Hole.Carrier.out
 of_ulong n = laws.is (kind.Ulong n) (kind.Ulong n)
 
@@ -49,7 +49,7 @@ tail (x ∷ xs) = xs
 abbrev second : List (List ℕ) → List ℕ
 second ws = head [] (tail ws)
 
-single : (xs ys : List ℕ) → flat_map fed.u8 xs ≡ flat_map fed.u8 ys → xs ≡ ys
+single : (xs ys : List ℕ) → flat_map hashed.u8 xs ≡ flat_map hashed.u8 ys → xs ≡ ys
 single [] [] p = refl
 single [] (y ∷ ys) p = absurd cc
 single (x ∷ xs) [] p = absurd cc
@@ -78,7 +78,7 @@ uints m n f g h = four m n f g (ap second (sym (of_uint m) ∙ h ∙ of_uint n))
 pub ulongs : (m n : ℕ) → m < 2 ^ 64 → n < 2 ^ 64 → input (kind.Ulong m) ≡ input (kind.Ulong n) → m ≡ n
 ulongs m n f g h = eight m n f g (ap second (sym (of_ulong m) ∙ h ∙ of_ulong n))
 
-codes_differ : ¬ (head [] (fed.isize (pos 20)) ≡ head [] (fed.isize (pos 21)))
+codes_differ : ¬ (head [] (hashed.isize (pos 20)) ≡ head [] (hashed.isize (pos 21)))
 unfolding le_bytes
 codes_differ p = absurd cc
 

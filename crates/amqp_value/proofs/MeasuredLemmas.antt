@@ -8,7 +8,7 @@ use Rattle.amqp_ser.specs.Scalars.{scalar_form, scalar_payload, scalar_code}
 use Rattle.amqp_ser.specs.Encoding.{encoding, encoding_each, encoding_pairs, payload_each, array_constructor, constructor, code_list, counted, wide, list_form, array_form, descriptor_form}
 use Rattle.amqp_ser.specs.Writable.{scalar_fits, same_constructor, each_constructor, descriptor_fits}
 use Rattle.amqp_ser.proofs.Bools.{both, le_true, is_le, left_true, right_true}
-use Rattle.amqp_size.specs.Width.{map_width, list_width, array_width}
+use Rattle.amqp_size.specs.Width.{map_form_len, list_form_len, array_form_len}
 use Rattle.amqp_value.specs.TreeOf.{tree_of, all_of, pairs_trees}
 use Rattle.amqp_value.specs.declared.value.Value.{Value}
 use Rattle.amqp_value.specs.Measured.{Measured, MeasuredPayload, MeasuredEach, MeasuredPayloads, MeasuredContent, MeasuredPairs, HasRange, HaveRanges, IsLength, width_for}
@@ -17,14 +17,14 @@ if_len : (t : Bool) (xs ys : List ℕ) (m n : ℕ) → length xs ≡ m → lengt
 if_len true xs ys m n a b = a
 if_len false xs ys m n a b = b
 
-length-counted : (a b n : ℕ) (body : List ℕ) → length (counted a b n body) ≡ map_width (length body)
+length-counted : (a b n : ℕ) (body : List ℕ) → length (counted a b n body) ≡ map_form_len (length body)
 length-counted a b n body = if_len (is_short (length body)) (a ∷ (length body + 1) ∷ n ∷ body) (b ∷ wide n body) (length body + 3) (length body + 9) (omega arith) (omega arith)
 
-length-list_form : (n : ℕ) (body : List ℕ) → length (list_form n body) ≡ list_width (length body)
+length-list_form : (n : ℕ) (body : List ℕ) → length (list_form n body) ≡ list_form_len (length body)
 length-list_form n [] = refl
 length-list_form n (b ∷ bs) = let e = length-counted 0xc0 0xd0 n (b ∷ bs) in grind (arith, nat_tests)
 
-length-array_form : (n : ℕ) (body : List ℕ) → length (array_form n body) ≡ array_width (length body) n
+length-array_form : (n : ℕ) (body : List ℕ) → length (array_form n body) ≡ array_form_len (length body) n
 length-array_form n body = if_len (is_short (length body) && nat_le n 255) (0xe0 ∷ (length body + 1) ∷ n ∷ body) (0xf0 ∷ wide n body) (length body + 3) (length body + 9) (omega arith) (omega arith)
 
 length-wide : (n : ℕ) (body : List ℕ) → length (wide n body) ≡ length body + 8
@@ -38,30 +38,30 @@ pub of_scalar_payload : (s : Scalar) (n : ℕ) → scalar_fits s ≡ true → n 
 of_scalar_payload s n f e r = record { within_limits_it = f; uniform_arrays_it = refl; inside_it = refl; len = e; ranged = r }
 
 -- Compounds.
-pub of_list : (ts : Trees) (m n : ℕ) → MeasuredEach ts m → fits m ≡ true → n ≡ list_width m → Measured (list ts) n
+pub of_list : (ts : Trees) (m n : ℕ) → MeasuredEach ts m → fits m ≡ true → n ≡ list_form_len m → Measured (list ts) n
 of_list ts m n e f w = record {
   within_limits_it = both _ _ (subst (λ k. fits k ≡ true) e.len f) e.within_limits_all;
   uniform_arrays_it = e.uniform_arrays_all;
   inside_it = e.inside_all;
-  len = w ∙ (ap list_width e.len ∙ sym (length-list_form (count ts) (encoding_each ts)));
+  len = w ∙ (ap list_form_len e.len ∙ sym (length-list_form (count ts) (encoding_each ts)));
   ranged = e.ranged_all;
 }
 
-pub of_map : (ps : Pairs) (m n : ℕ) → MeasuredPairs ps m → fits m ≡ true → n ≡ map_width m → Measured (map ps) n
+pub of_map : (ps : Pairs) (m n : ℕ) → MeasuredPairs ps m → fits m ≡ true → n ≡ map_form_len m → Measured (map ps) n
 of_map ps m n e f w = record {
   within_limits_it = both _ _ (subst (λ k. fits k ≡ true) e.len f) e.within_limits_all;
   uniform_arrays_it = e.uniform_arrays_all;
   inside_it = e.inside_all;
-  len = w ∙ (ap map_width e.len ∙ sym (length-counted 0xc1 0xd1 (pair_count ps * 2) (encoding_pairs ps)));
+  len = w ∙ (ap map_form_len e.len ∙ sym (length-counted 0xc1 0xd1 (pair_count ps * 2) (encoding_pairs ps)));
   ranged = e.ranged_all;
 }
 
-pub of_array : (ts : Trees) (c m n : ℕ) → count ts ≡ c → MeasuredContent ts m → fits m ≡ true → c ≤ 4294967295 → n ≡ array_width m c → Measured (array ts) n
+pub of_array : (ts : Trees) (c m n : ℕ) → count ts ≡ c → MeasuredContent ts m → fits m ≡ true → c ≤ 4294967295 → n ≡ array_form_len m c → Measured (array ts) n
 of_array ts c m n k e f few w = record {
   within_limits_it = both _ _ (subst (λ k. fits k ≡ true) e.len f) (both _ _ (le_true (count ts) 4294967295 (omega arith)) e.within_limits_all);
   uniform_arrays_it = both _ _ e.one e.uniform_arrays_all;
   inside_it = e.inside_all;
-  len = w ∙ (ap (λ x. array_width x c) e.len ∙ (ap (array_width (length (array_constructor ts ++ payload_each ts))) (sym k) ∙ sym (length-array_form (count ts) (array_constructor ts ++ payload_each ts))));
+  len = w ∙ (ap (λ x. array_form_len x c) e.len ∙ (ap (array_form_len (length (array_constructor ts ++ payload_each ts))) (sym k) ∙ sym (length-array_form (count ts) (array_constructor ts ++ payload_each ts))));
   ranged = e.ranged_all;
 }
 
@@ -177,13 +177,13 @@ count-all_of (v ∷ vs) = let e = count-all_of vs in omega arith
 fits_is : (m : ℕ) → fits m ≡ true → IsLength m
 fits_is m h = let e = is_le m 4294967291 h in omega arith
 
-pub of_map_at : (es fs : List (Value × Value)) (m n : ℕ) → fs ≡ es → (IsLength m → MeasuredPairs (pairs_trees fs) m) → (IsLength n → fits m ≡ true) → (IsLength n → n ≡ map_width m) → IsLength n → Measured (map (pairs_trees es)) n
+pub of_map_at : (es fs : List (Value × Value)) (m n : ℕ) → fs ≡ es → (IsLength m → MeasuredPairs (pairs_trees fs) m) → (IsLength n → fits m ≡ true) → (IsLength n → n ≡ map_form_len m) → IsLength n → Measured (map (pairs_trees es)) n
 of_map_at es fs m n e h f w ok = of_map (pairs_trees es) m n (subst (λ k. MeasuredPairs (pairs_trees k) m) e (h (fits_is m (f ok)))) (f ok) (w ok)
 
 pub of_map_payload_at : (es fs : List (Value × Value)) (m n : ℕ) → fs ≡ es → (IsLength m → MeasuredPairs (pairs_trees fs) m) → (IsLength n → fits m ≡ true) → (IsLength n → n ≡ m + 8) → IsLength n → MeasuredPayload (map (pairs_trees es)) n
 of_map_payload_at es fs m n e h f w ok = of_map_payload (pairs_trees es) m n (subst (λ k. MeasuredPairs (pairs_trees k) m) e (h (fits_is m (f ok)))) (f ok) (w ok)
 
-pub of_array_at : (xs ys : List Value) (c m n : ℕ) → ys ≡ xs → c ≡ length ys → (IsLength m → MeasuredContent (all_of ys) m) → (IsLength n → fits m ≡ true) → (IsLength n → c ≤ 4294967295) → (IsLength n → n ≡ array_width m c) → IsLength n → Measured (array (all_of xs)) n
+pub of_array_at : (xs ys : List Value) (c m n : ℕ) → ys ≡ xs → c ≡ length ys → (IsLength m → MeasuredContent (all_of ys) m) → (IsLength n → fits m ≡ true) → (IsLength n → c ≤ 4294967295) → (IsLength n → n ≡ array_form_len m c) → IsLength n → Measured (array (all_of xs)) n
 of_array_at xs ys c m n e l h f few w ok =
     of_array (all_of xs) c m n (count-all_of xs ∙ (ap length (sym e) ∙ sym l)) (subst (λ k. MeasuredContent (all_of k) m) e (h (fits_is m (f ok)))) (f ok) (few ok) (w ok)
 

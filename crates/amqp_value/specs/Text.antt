@@ -6,7 +6,7 @@ use Rattle.std.specs.List.{flat_map}
 use Rattle.std.specs.Str.{chars}
 use Rattle.amqp_calendar.specs.Moment.{moment_text}
 use Rattle.amqp_data.specs.Hexadecimal.{hex}
-use Rattle.amqp_data.specs.Shown.{shown_symbol, shown_uuid}
+use Rattle.amqp_data.specs.Displayed.{displayed_symbol, displayed_uuid}
 use Rattle.amqp_ser.specs.Tree as tree
 use Rattle.amqp_ser.specs.Tree.{Scalar, Descriptor, Tree, Trees, Pairs, no_trees, more, no_pairs, pair}
 
@@ -59,14 +59,14 @@ scalar_text (tree.decimal64 bytes) = bytes_text bytes
 scalar_text (tree.decimal128 bytes) = bytes_text bytes
 scalar_text (tree.char c) = quoted_char c
 scalar_text (tree.timestamp ms) = moment_text ms
-scalar_text (tree.uuid bytes) = shown_uuid bytes
+scalar_text (tree.uuid bytes) = displayed_uuid bytes
 scalar_text (tree.binary bytes) = bytes_text bytes
 scalar_text (tree.string s) = quoted s
-scalar_text (tree.symbol s) = shown_symbol s
+scalar_text (tree.symbol s) = displayed_symbol s
 
 -- A name, or a code in hexadecimal without leading zeros.
 abbrev pub descriptor_text : Descriptor → List ℕ
-descriptor_text (tree.name s) = shown_symbol s
+descriptor_text (tree.name s) = displayed_symbol s
 descriptor_text (tree.code n) = codes "0x" ++ digits 16 false n
 
 -- The separator before the nth item: nothing before the first, otherwise a comma and a space.

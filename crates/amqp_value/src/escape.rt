@@ -43,15 +43,15 @@ fn escape_all<W: Write>(text: &str, f: &mut Formatter<W>) -> fmt::Result
             from += 1;
             continue;
         }
-        let to = plain_end(bytes, from);
-        write_plain(&text[from..to], f)?;
+        let to = unescaped_end(bytes, from);
+        write_unescaped(&text[from..to], f)?;
         from = to;
     }
     Ok(())
 }
 
 // Writes a text as it is, in pieces of at most `PIECE` bytes.
-fn write_plain<W: Write>(text: &str, f: &mut Formatter<W>) -> fmt::Result
+fn write_unescaped<W: Write>(text: &str, f: &mut Formatter<W>) -> fmt::Result
     ensures { WritesOnOk W.write_str_gives f.old result text.now f.new }
 {
     let mut rest = text;
@@ -76,7 +76,7 @@ fn piece_end(text: &str) -> usize
 
 // Returns the offset of the next byte after `from` that needs an escape in a string, or the length if
 // there is none. The byte at `from` needs none.
-fn plain_end(bytes: &[u8], from: usize) -> usize
+fn unescaped_end(bytes: &[u8], from: usize) -> usize
     requires inside { from < length bytes.now }
     requires plain { byte_escaped (slice_index bytes.now from) ≡ slice_index bytes.now from ∷ [] }
     ensures low { from < result }

@@ -2,7 +2,7 @@
 
 ghost use Rattle.std.specs.Prelude.{◌≡◌};
 ghost use Rattle.std.specs.List.{list_all};
-ghost use Rattle.amqp_value.specs.ShortKeys.{is_short};
+ghost use Rattle.amqp_value.specs.ShortKeys.{is_short_key};
 
 use crate::value::Value;
 use amqp_data::{MAX_HASHED_BINARY, MAX_HASHED_TEXT};
@@ -13,7 +13,7 @@ use amqp_data::{MAX_HASHED_BINARY, MAX_HASHED_TEXT};
 /// # Example
 /// True for the string `a`, false for an empty list.
 pub fn is_short_key(key: &Value) -> bool
-    ensures { result ≡ is_short key.now }
+    ensures { result ≡ is_short_key key.now }
 {
     match key {
         Value::Binary(bytes) => bytes.as_inner().len() <= MAX_HASHED_BINARY,
@@ -26,7 +26,7 @@ pub fn is_short_key(key: &Value) -> bool
 
 /// Returns whether `is_short_key` is true for each key.
 pub(crate) fn have_short_keys(entries: &[(Value, Value)]) -> bool
-    ensures { result ≡ list_all (λ e. is_short e.0) entries.now }
+    ensures { result ≡ list_all (λ e. is_short_key e.0) entries.now }
 {
     entries.iter().all(|entry| is_short_key(&entry.0))
 }

@@ -6,8 +6,8 @@ use Rattle.amqp_ser.specs.Tree.{Tree, Scalar, Descriptor, scalar, trees_of}
 use Rattle.amqp_value.specs.TreeOf.{pairs_of}
 use Rattle.amqp_de.specs.Values.{elements_in, entries_in}
 use Rattle.amqp_de.proofs.Lists.{list_of_trees, entries_in_pairs}
-use Rattle.amqp_visit.specs.Events.{Event, Visits, plain_event, seq_event, map_event, described_event}
-use Rattle.amqp_visit.specs.Events.{ByPlain, ByList, ByArray, ByMap, ByDescribed}
+use Rattle.amqp_visit.specs.Events.{Event, Visits, unchanged_event, seq_event, map_event, described_event}
+use Rattle.amqp_visit.specs.Events.{ByScalar, ByList, ByArray, ByMap, ByDescribed}
 use Rattle.amqp_visit.specs.Results.{Answers, InvalidUnless}
 
 module _ {T A B : Type 0} (P Q : A → T → Type 0) (P' Q' : B → T → Type 0) (same : T → T → Type 0) (a : A) (b : B) where
@@ -21,16 +21,16 @@ module _ {T A B : Type 0} (P Q : A → T → Type 0) (P' Q' : B → T → Type 0
       refused (inr n) = inr (λ x p. n x (g x p))
 
 module _ {T : Type 0} (P Q : Event → T → Type 0) (same : T → T → Type 0) (t : Tree) (r : Result T Error) where
-  pub by_plain : {A : Type 0} (kind : A → Scalar) (a : A) → t ≡ scalar (kind a)
-      → Visits P Q same (plain_event (kind a)) r → Visits (ByPlain P kind) (ByPlain Q kind) same t r
-  by_plain kind a is =
-      relabel P Q (ByPlain P kind) (ByPlain Q kind) same (plain_event (kind a)) t r (to P) (of P) (of Q)
+  pub by_scalar : {A : Type 0} (kind : A → Scalar) (a : A) → t ≡ scalar (kind a)
+      → Visits P Q same (unchanged_event (kind a)) r → Visits (ByScalar P kind) (ByScalar Q kind) same t r
+  by_scalar kind a is =
+      relabel P Q (ByScalar P kind) (ByScalar Q kind) same (unchanged_event (kind a)) t r (to P) (of P) (of Q)
     where
-      to : (G : Event → T → Type 0) (x : T) → G (plain_event (kind a)) x → ByPlain G kind t x
+      to : (G : Event → T → Type 0) (x : T) → G (unchanged_event (kind a)) x → ByScalar G kind t x
       to G x g = (a, is, g)
 
-      of : (G : Event → T → Type 0) (x : T) → ByPlain G kind t x → G (plain_event (kind a)) x
-      of G x p = let inner : kind p.0 ≡ kind a = cc in subst (λ s. G (plain_event s) x) inner p.2
+      of : (G : Event → T → Type 0) (x : T) → ByScalar G kind t x → G (unchanged_event (kind a)) x
+      of G x p = let inner : kind p.0 ≡ kind a = cc in subst (λ s. G (unchanged_event s) x) inner p.2
 
   pub by_list : (ts : List Tree) → t ≡ tree.list (trees_of ts)
       → Visits P Q same (seq_event ts) r → Visits (ByList P) (ByList Q) same t r

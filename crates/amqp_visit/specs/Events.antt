@@ -19,12 +19,12 @@ use Rattle.amqp_value.specs.TreeOf.{tree_of}
 use Rattle.amqp_de.specs.Values.{elements_in, entries_in}
 use Rattle.amqp_visit.specs.Results.{IsOutOfMemory, Answers}
 use Rattle.amqp_visit.specs.Trees.{enum_content, enum_index, map_left, pending_value, seq_left, value_tree}
-use Rattle.amqp_visit.specs.declared.shown.Visit.{Visit}
-use Rattle.amqp_visit.specs.declared.shown.Visit.TheVariants as visit
+use Rattle.amqp_visit.specs.declared.visit.Visit.{Visit}
+use Rattle.amqp_visit.specs.declared.visit.Visit.TheVariants as visit
 
 -- An event. That of an enum has the index and, if there is one, the value.
 pub data Event : Type 0 where
-  plain_event : Scalar → Event
+  unchanged_event : Scalar → Event
   none_event : Event
   some_event : Tree → Event
   newtype_event : Tree → Event
@@ -39,21 +39,21 @@ pub data Event : Type 0 where
 abbrev pub event_of : Visit → Event
 event_of visit.None = none_event
 event_of (visit.Some d) = some_event (value_tree d)
-event_of visit.Unit = plain_event tree.null
-event_of (visit.Bool b) = plain_event (tree.bool b)
-event_of (visit.U8 n) = plain_event (tree.ubyte n)
-event_of (visit.U16 n) = plain_event (tree.ushort n)
-event_of (visit.U32 n) = plain_event (tree.uint n)
-event_of (visit.U64 n) = plain_event (tree.ulong n)
-event_of (visit.I8 z) = plain_event (tree.byte z)
-event_of (visit.I16 z) = plain_event (tree.short z)
-event_of (visit.I32 z) = plain_event (tree.int z)
-event_of (visit.I64 z) = plain_event (tree.long z)
-event_of (visit.F32 x) = plain_event (tree.float (f32_bits x))
-event_of (visit.F64 x) = plain_event (tree.double (f64_bits x))
-event_of (visit.Char c) = plain_event (tree.char c)
-event_of (visit.String s) = plain_event (tree.string (string_bytes s))
-event_of (visit.ByteBuf b) = plain_event (tree.binary (byte_buf_bytes b))
+event_of visit.Unit = unchanged_event tree.null
+event_of (visit.Bool b) = unchanged_event (tree.bool b)
+event_of (visit.U8 n) = unchanged_event (tree.ubyte n)
+event_of (visit.U16 n) = unchanged_event (tree.ushort n)
+event_of (visit.U32 n) = unchanged_event (tree.uint n)
+event_of (visit.U64 n) = unchanged_event (tree.ulong n)
+event_of (visit.I8 z) = unchanged_event (tree.byte z)
+event_of (visit.I16 z) = unchanged_event (tree.short z)
+event_of (visit.I32 z) = unchanged_event (tree.int z)
+event_of (visit.I64 z) = unchanged_event (tree.long z)
+event_of (visit.F32 x) = unchanged_event (tree.float (f32_bits x))
+event_of (visit.F64 x) = unchanged_event (tree.double (f64_bits x))
+event_of (visit.Char c) = unchanged_event (tree.char c)
+event_of (visit.String s) = unchanged_event (tree.string (string_bytes s))
+event_of (visit.ByteBuf b) = unchanged_event (tree.binary (byte_buf_bytes b))
 event_of (visit.Bytes b) = bytes_event b.now
 event_of (visit.Newtype d) = newtype_event (value_tree d)
 event_of (visit.Seq a) = seq_event (seq_left a)
@@ -81,12 +81,12 @@ first (t ∷ ts) = Some t
 
 module _ {T : Type 0} (G : Event → T → Type 0) where
   -- A scalar of this kind is reported unchanged.
-  abbrev pub ByPlain : {A : Type 0} → (A → Scalar) → Tree → T → Type 0
-  ByPlain {A} kind t x = (a : A) × (t ≡ scalar (kind a)) × G (plain_event (kind a)) x
+  abbrev pub ByScalar : {A : Type 0} → (A → Scalar) → Tree → T → Type 0
+  ByScalar {A} kind t x = (a : A) × (t ≡ scalar (kind a)) × G (unchanged_event (kind a)) x
 
   -- Only null is reported.
   abbrev pub ByUnit : Tree → T → Type 0
-  ByUnit t x = (t ≡ scalar tree.null) × G (plain_event tree.null) x
+  ByUnit t x = (t ≡ scalar tree.null) × G (unchanged_event tree.null) x
 
   -- Null is reported as absent, and any other tree as present.
   abbrev pub ByOption : Tree → T → Type 0
@@ -115,8 +115,8 @@ module _ {T : Type 0} (G : Event → T → Type 0) where
 
   -- A uint is reported unchanged, and a symbol as a string.
   abbrev pub ByIdentifier : Tree → T → Type 0
-  ByIdentifier t x = ((n : ℕ) × (t ≡ scalar (tree.uint n)) × G (plain_event (tree.uint n)) x)
-      ⊎ ((s : List ℕ) × (t ≡ scalar (tree.symbol s)) × G (plain_event (tree.string s)) x)
+  ByIdentifier t x = ((n : ℕ) × (t ≡ scalar (tree.uint n)) × G (unchanged_event (tree.uint n)) x)
+      ⊎ ((s : List ℕ) × (t ≡ scalar (tree.symbol s)) × G (unchanged_event (tree.string s)) x)
 
   -- A variant without a value: its index.
   abbrev pub ScalarVariant : Scalar → T → Type 0
@@ -143,8 +143,8 @@ module _ {T : Type 0} (G : Event → T → Type 0) where
 
   -- A descriptor: a ulong is reported unchanged, and a symbol as a string.
   abbrev pub ByDescriptor : Tree → T → Type 0
-  ByDescriptor t x = ((n : ℕ) × (t ≡ scalar (tree.ulong n)) × G (plain_event (tree.ulong n)) x)
-      ⊎ ((s : List ℕ) × (t ≡ scalar (tree.symbol s)) × G (plain_event (tree.string s)) x)
+  ByDescriptor t x = ((n : ℕ) × (t ≡ scalar (tree.ulong n)) × G (unchanged_event (tree.ulong n)) x)
+      ⊎ ((s : List ℕ) × (t ≡ scalar (tree.symbol s)) × G (unchanged_event (tree.string s)) x)
 
   -- Any tree is reported as an untyped value.
   abbrev pub ByValue : Tree → T → Type 0
@@ -153,7 +153,7 @@ module _ {T : Type 0} (G : Event → T → Type 0) where
   -- The elements of an array are reported, or the format code of any other value.
   abbrev pub ByFormat : Tree → T → Type 0
   ByFormat (array ts) x = G (seq_event (elements_in ts)) x
-  ByFormat t x = G (plain_event (tree.ubyte (code_of_kind t))) x
+  ByFormat t x = G (unchanged_event (tree.ubyte (code_of_kind t))) x
 
   -- The name of an enum selects an untyped value, a descriptor, the elements of an array or a
   -- format code, or a variant.
@@ -165,10 +165,10 @@ module _ {T : Type 0} (G : Event → T → Type 0) where
 
   -- A symbol is reported as a string, a timestamp as a long, and a decimal or a uuid as its bytes.
   abbrev pub BySymbol : Tree → T → Type 0
-  BySymbol t x = (s : List ℕ) × (t ≡ scalar (tree.symbol s)) × G (plain_event (tree.string s)) x
+  BySymbol t x = (s : List ℕ) × (t ≡ scalar (tree.symbol s)) × G (unchanged_event (tree.string s)) x
 
   abbrev pub ByTimestamp : Tree → T → Type 0
-  ByTimestamp t x = (z : ℤ) × (t ≡ scalar (tree.timestamp z)) × G (plain_event (tree.long z)) x
+  ByTimestamp t x = (z : ℤ) × (t ≡ scalar (tree.timestamp z)) × G (unchanged_event (tree.long z)) x
 
   abbrev pub ByBytes : (List ℕ → Scalar) → Tree → T → Type 0
   ByBytes kind t x = (b : List ℕ) × (t ≡ scalar (kind b)) × G (bytes_event b) x
@@ -179,7 +179,7 @@ module _ {T : Type 0} (G : Event → T → Type 0) where
 
   -- The bytes of a writable tree are reported.
   abbrev pub ByWritten : Tree → T → Type 0
-  ByWritten t x = (writable t ≡ true) × G (plain_event (tree.binary (encoding t))) x
+  ByWritten t x = (writable t ≡ true) × G (unchanged_event (tree.binary (encoding t))) x
 
   -- The marker of a newtype selects what is reported.
   abbrev pub ByMarker : Marker → Tree → T → Type 0
@@ -225,7 +225,7 @@ scalar_event (tree.uuid b) = value_event (scalar (tree.uuid b))
 scalar_event (tree.decimal32 b) = value_event (scalar (tree.decimal32 b))
 scalar_event (tree.decimal64 b) = value_event (scalar (tree.decimal64 b))
 scalar_event (tree.decimal128 b) = value_event (scalar (tree.decimal128 b))
-scalar_event s = plain_event s
+scalar_event s = unchanged_event s
 
 abbrev pub any_event : Tree → Event
 any_event (scalar s) = scalar_event s

@@ -5,7 +5,7 @@ use Rattle.amqp_data.specs.declared.error.Error.TheVariants as error
 use Rattle.amqp_ser.specs.Tree.{Tree}
 use Rattle.amqp_de.specs.Answers as read
 use Rattle.amqp_de.specs.Results.{IsMemory, kind_of}
-use Rattle.amqp_de.specs.Spelled.{IsOfReading, error_of}
+use Rattle.amqp_de.specs.FromBytes.{IsOfReading, error_of}
 use Rattle.amqp_de.specs.declared.fault.Fault.{Fault}
 
 -- The error is out of memory.

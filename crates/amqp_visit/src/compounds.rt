@@ -3,7 +3,7 @@
 ghost use Rattle.amqp_ser.specs.Tree.{null};
 ghost use Rattle.amqp_visit.specs.Accepted.{IsArray, IsDescribed, IsList, IsMap, IsStruct};
 ghost use Rattle.amqp_visit.specs.Events.{Visits, ByArray, ByDescribed, ByList, ByMap, ByStruct};
-ghost use Rattle.amqp_visit.specs.Events.{any_event, is_described_name, plain_event};
+ghost use Rattle.amqp_visit.specs.Events.{any_event, is_described_name, unchanged_event};
 ghost use Rattle.amqp_visit.specs.Results.{InvalidUnless};
 ghost use Rattle.amqp_visit.specs.Trees.{value_tree};
 
@@ -169,7 +169,7 @@ impl Deserializer {
     /// For the empty list, calls `visit_unit()`.
     pub fn deserialize_ignored_any<V: Visitor>(self, visitor: V) -> Result<V::Value, Error>
         ensures { Visits (V.gives visitor) (V.represents visitor) V.same
-            (plain_event null) result }
+            (unchanged_event null) result }
     {
         visitor.visit_unit()
     }

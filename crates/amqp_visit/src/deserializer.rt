@@ -3,7 +3,7 @@
 ghost use Rattle.std.specs.Prelude.{◌≡◌, false, IfErr};
 ghost use Rattle.amqp_value.specs.TreeOf.{tree_of};
 ghost use Rattle.amqp_de.specs.Results.{IsMemory, Takes};
-ghost use Rattle.amqp_de.specs.Spelled.{IsOfReading};
+ghost use Rattle.amqp_de.specs.FromBytes.{IsOfReading};
 ghost use Rattle.amqp_visit.specs.Results.{Answers, Finishes, IsFaultOf, Restores};
 
 use amqp_data::Error;

@@ -14,11 +14,11 @@ mod names;
 mod newtypes;
 mod numbers;
 mod scalars;
-mod shown;
+mod visit;
 mod visitor;
 
 pub use access::{EnumAccess, MapAccess, SeqAccess, VariantAccess};
 pub use amqp_de::{Deserialize, Of as TypeSeed, Seed as DeserializeSeed};
 pub use deserializer::{Deserializer, finish};
-pub use shown::Visit;
+pub use visit::Visit;
 pub use visitor::Visitor;

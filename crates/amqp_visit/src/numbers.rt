@@ -3,7 +3,7 @@
 ghost use Rattle.amqp_ser.specs.Tree.{bool, ubyte, ushort, uint, ulong, byte, short, int, long};
 ghost use Rattle.amqp_ser.specs.Tree.{float, double};
 ghost use Rattle.amqp_visit.specs.Accepted.{IsOf};
-ghost use Rattle.amqp_visit.specs.Events.{Visits, ByPlain};
+ghost use Rattle.amqp_visit.specs.Events.{Visits, ByScalar};
 ghost use Rattle.amqp_visit.specs.Results.{InvalidUnless};
 ghost use Rattle.amqp_visit.specs.Trees.{value_tree};
 
@@ -21,8 +21,8 @@ impl Deserializer {
     /// # Example
     /// For `true`, calls `visit_bool(true)`. The ubyte 1 is invalid.
     pub fn deserialize_bool<V: Visitor>(self, visitor: V) -> Result<V::Value, Error>
-        ensures visits { Visits (ByPlain (V.gives visitor) bool)
-            (ByPlain (V.represents visitor) bool)
+        ensures visits { Visits (ByScalar (V.gives visitor) bool)
+            (ByScalar (V.represents visitor) bool)
             V.same (value_tree self) result }
         ensures invalid { InvalidUnless (IsOf bool (value_tree self)) result }
     {
@@ -40,8 +40,8 @@ impl Deserializer {
     /// # Example
     /// For the ubyte 5, calls `visit_u8(5)`. The uint 5 is invalid.
     pub fn deserialize_u8<V: Visitor>(self, visitor: V) -> Result<V::Value, Error>
-        ensures visits { Visits (ByPlain (V.gives visitor) ubyte)
-            (ByPlain (V.represents visitor) ubyte)
+        ensures visits { Visits (ByScalar (V.gives visitor) ubyte)
+            (ByScalar (V.represents visitor) ubyte)
             V.same (value_tree self) result }
         ensures invalid { InvalidUnless (IsOf ubyte (value_tree self)) result }
     {
@@ -59,8 +59,8 @@ impl Deserializer {
     /// # Example
     /// For the ushort 256, calls `visit_u16(256)`.
     pub fn deserialize_u16<V: Visitor>(self, visitor: V) -> Result<V::Value, Error>
-        ensures visits { Visits (ByPlain (V.gives visitor) ushort)
-            (ByPlain (V.represents visitor) ushort)
+        ensures visits { Visits (ByScalar (V.gives visitor) ushort)
+            (ByScalar (V.represents visitor) ushort)
             V.same (value_tree self) result }
         ensures invalid { InvalidUnless (IsOf ushort (value_tree self)) result }
     {
@@ -78,8 +78,8 @@ impl Deserializer {
     /// # Example
     /// For the uint 1, calls `visit_u32(1)`. The ulong 1 is invalid.
     pub fn deserialize_u32<V: Visitor>(self, visitor: V) -> Result<V::Value, Error>
-        ensures visits { Visits (ByPlain (V.gives visitor) uint)
-            (ByPlain (V.represents visitor) uint)
+        ensures visits { Visits (ByScalar (V.gives visitor) uint)
+            (ByScalar (V.represents visitor) uint)
             V.same (value_tree self) result }
         ensures invalid { InvalidUnless (IsOf uint (value_tree self)) result }
     {
@@ -97,8 +97,8 @@ impl Deserializer {
     /// # Example
     /// For the ulong 13, calls `visit_u64(13)`.
     pub fn deserialize_u64<V: Visitor>(self, visitor: V) -> Result<V::Value, Error>
-        ensures visits { Visits (ByPlain (V.gives visitor) ulong)
-            (ByPlain (V.represents visitor) ulong)
+        ensures visits { Visits (ByScalar (V.gives visitor) ulong)
+            (ByScalar (V.represents visitor) ulong)
             V.same (value_tree self) result }
         ensures invalid { InvalidUnless (IsOf ulong (value_tree self)) result }
     {
@@ -116,8 +116,8 @@ impl Deserializer {
     /// # Example
     /// For the byte -1, calls `visit_i8(-1)`.
     pub fn deserialize_i8<V: Visitor>(self, visitor: V) -> Result<V::Value, Error>
-        ensures visits { Visits (ByPlain (V.gives visitor) byte)
-            (ByPlain (V.represents visitor) byte)
+        ensures visits { Visits (ByScalar (V.gives visitor) byte)
+            (ByScalar (V.represents visitor) byte)
             V.same (value_tree self) result }
         ensures invalid { InvalidUnless (IsOf byte (value_tree self)) result }
     {
@@ -135,8 +135,8 @@ impl Deserializer {
     /// # Example
     /// For the short -2, calls `visit_i16(-2)`.
     pub fn deserialize_i16<V: Visitor>(self, visitor: V) -> Result<V::Value, Error>
-        ensures visits { Visits (ByPlain (V.gives visitor) short)
-            (ByPlain (V.represents visitor) short)
+        ensures visits { Visits (ByScalar (V.gives visitor) short)
+            (ByScalar (V.represents visitor) short)
             V.same (value_tree self) result }
         ensures invalid { InvalidUnless (IsOf short (value_tree self)) result }
     {
@@ -154,7 +154,7 @@ impl Deserializer {
     /// # Example
     /// For the int 128, calls `visit_i32(128)`.
     pub fn deserialize_i32<V: Visitor>(self, visitor: V) -> Result<V::Value, Error>
-        ensures visits { Visits (ByPlain (V.gives visitor) int) (ByPlain (V.represents visitor) int)
+        ensures visits { Visits (ByScalar (V.gives visitor) int) (ByScalar (V.represents visitor) int)
             V.same (value_tree self) result }
         ensures invalid { InvalidUnless (IsOf int (value_tree self)) result }
     {
@@ -172,8 +172,8 @@ impl Deserializer {
     /// # Example
     /// For the long -1, calls `visit_i64(-1)`. A timestamp is invalid.
     pub fn deserialize_i64<V: Visitor>(self, visitor: V) -> Result<V::Value, Error>
-        ensures visits { Visits (ByPlain (V.gives visitor) long)
-            (ByPlain (V.represents visitor) long)
+        ensures visits { Visits (ByScalar (V.gives visitor) long)
+            (ByScalar (V.represents visitor) long)
             V.same (value_tree self) result }
         ensures invalid { InvalidUnless (IsOf long (value_tree self)) result }
     {
@@ -191,8 +191,8 @@ impl Deserializer {
     /// # Example
     /// For the float 1.5, calls `visit_f32` with the bits 3FC00000.
     pub fn deserialize_f32<V: Visitor>(self, visitor: V) -> Result<V::Value, Error>
-        ensures visits { Visits (ByPlain (V.gives visitor) float)
-            (ByPlain (V.represents visitor) float)
+        ensures visits { Visits (ByScalar (V.gives visitor) float)
+            (ByScalar (V.represents visitor) float)
             V.same (value_tree self) result }
         ensures invalid { InvalidUnless (IsOf float (value_tree self)) result }
     {
@@ -211,8 +211,8 @@ impl Deserializer {
     /// # Example
     /// For the double 1.5, calls `visit_f64` with the bits 3FF8000000000000.
     pub fn deserialize_f64<V: Visitor>(self, visitor: V) -> Result<V::Value, Error>
-        ensures visits { Visits (ByPlain (V.gives visitor) double)
-            (ByPlain (V.represents visitor) double)
+        ensures visits { Visits (ByScalar (V.gives visitor) double)
+            (ByScalar (V.represents visitor) double)
             V.same (value_tree self) result }
         ensures invalid { InvalidUnless (IsOf double (value_tree self)) result }
     {

@@ -3,7 +3,7 @@
 ghost use Rattle.std.specs.Prelude.{◌≡◌};
 ghost use Rattle.amqp_ser.specs.Tree.{scalar, null, char, string, binary};
 ghost use Rattle.amqp_visit.specs.Accepted.{IsOf};
-ghost use Rattle.amqp_visit.specs.Events.{Visits, ByPlain, ByOption, ByUnit};
+ghost use Rattle.amqp_visit.specs.Events.{Visits, ByScalar, ByOption, ByUnit};
 ghost use Rattle.amqp_visit.specs.Results.{InvalidUnless};
 ghost use Rattle.amqp_visit.specs.Trees.{value_tree};
 
@@ -21,8 +21,8 @@ impl Deserializer {
     /// # Example
     /// For the char `a`, calls `visit_char('a')`.
     pub fn deserialize_char<V: Visitor>(self, visitor: V) -> Result<V::Value, Error>
-        ensures visits { Visits (ByPlain (V.gives visitor) char)
-            (ByPlain (V.represents visitor) char)
+        ensures visits { Visits (ByScalar (V.gives visitor) char)
+            (ByScalar (V.represents visitor) char)
             V.same (value_tree self) result }
         ensures invalid { InvalidUnless (IsOf char (value_tree self)) result }
     {
@@ -40,8 +40,8 @@ impl Deserializer {
     /// # Example
     /// For the string `a`, calls `visit_string` with it. The symbol `a` is invalid.
     pub fn deserialize_string<V: Visitor>(self, visitor: V) -> Result<V::Value, Error>
-        ensures visits { Visits (ByPlain (V.gives visitor) string)
-            (ByPlain (V.represents visitor) string)
+        ensures visits { Visits (ByScalar (V.gives visitor) string)
+            (ByScalar (V.represents visitor) string)
             V.same (value_tree self) result }
         ensures invalid { InvalidUnless (IsOf string (value_tree self)) result }
     {
@@ -60,8 +60,8 @@ impl Deserializer {
     /// # Example
     /// For the string `a`, calls `visit_string` with it.
     pub fn deserialize_str<V: Visitor>(self, visitor: V) -> Result<V::Value, Error>
-        ensures visits { Visits (ByPlain (V.gives visitor) string)
-            (ByPlain (V.represents visitor) string)
+        ensures visits { Visits (ByScalar (V.gives visitor) string)
+            (ByScalar (V.represents visitor) string)
             V.same (value_tree self) result }
         ensures invalid { InvalidUnless (IsOf string (value_tree self)) result }
     {
@@ -76,8 +76,8 @@ impl Deserializer {
     /// # Example
     /// For the binary 01, 02, calls `visit_byte_buf` with it. A list of ubytes is invalid.
     pub fn deserialize_byte_buf<V: Visitor>(self, visitor: V) -> Result<V::Value, Error>
-        ensures visits { Visits (ByPlain (V.gives visitor) binary)
-            (ByPlain (V.represents visitor) binary)
+        ensures visits { Visits (ByScalar (V.gives visitor) binary)
+            (ByScalar (V.represents visitor) binary)
             V.same (value_tree self) result }
         ensures invalid { InvalidUnless (IsOf binary (value_tree self)) result }
     {
@@ -96,8 +96,8 @@ impl Deserializer {
     /// # Example
     /// For the binary 01, 02, calls `visit_byte_buf` with it.
     pub fn deserialize_bytes<V: Visitor>(self, visitor: V) -> Result<V::Value, Error>
-        ensures visits { Visits (ByPlain (V.gives visitor) binary)
-            (ByPlain (V.represents visitor) binary)
+        ensures visits { Visits (ByScalar (V.gives visitor) binary)
+            (ByScalar (V.represents visitor) binary)
             V.same (value_tree self) result }
         ensures invalid { InvalidUnless (IsOf binary (value_tree self)) result }
     {

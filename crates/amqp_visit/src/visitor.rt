@@ -8,7 +8,7 @@ ghost use Rattle.amqp_ser.specs.Tree.{null, bool, ubyte, ushort, uint, ulong, by
 ghost use Rattle.amqp_ser.specs.Tree.{long, float, double, char, binary, string};
 ghost use Rattle.amqp_value.specs.TreeOf.{tree_of};
 ghost use Rattle.amqp_visit.specs.Events.{Event, HasNoPendingValue, Visits, event_of};
-ghost use Rattle.amqp_visit.specs.Events.{plain_event, none_event, some_event, newtype_event};
+ghost use Rattle.amqp_visit.specs.Events.{unchanged_event, none_event, some_event, newtype_event};
 ghost use Rattle.amqp_visit.specs.Events.{seq_event, map_event, enum_event, described_event};
 ghost use Rattle.amqp_visit.specs.Events.{value_event, bytes_event};
 ghost use Rattle.amqp_visit.specs.Trees.{enum_content, enum_index, map_left, pending_value};
@@ -16,7 +16,7 @@ ghost use Rattle.amqp_visit.specs.Trees.{seq_left, value_tree};
 
 use crate::access::{EnumAccess, MapAccess, SeqAccess};
 use crate::deserializer::Deserializer;
-use crate::shown::Visit;
+use crate::visit::Visit;
 use amqp_data::{ByteBuf, Descriptor, Error, F32Bits, F64Bits};
 use amqp_value::Value;
 
@@ -84,70 +84,70 @@ pub trait Visitor: Sized + Drop {
 
     /// Visits `()`, from null: calls `visit` with `Visit::Unit`.
     final fn visit_unit(self) -> Result<Self::Value, Error>
-        ensures { Visits (gives self) (represents self) same (plain_event null) result }
+        ensures { Visits (gives self) (represents self) same (unchanged_event null) result }
     {
         self.visit(Visit::Unit)
     }
 
     /// Visits a `bool`: calls `visit` with `Visit::Bool`.
     final fn visit_bool(self, value: bool) -> Result<Self::Value, Error>
-        ensures { Visits (gives self) (represents self) same (plain_event (bool value)) result }
+        ensures { Visits (gives self) (represents self) same (unchanged_event (bool value)) result }
     {
         self.visit(Visit::Bool(value))
     }
 
     /// Visits a `u8`: calls `visit` with `Visit::U8`.
     final fn visit_u8(self, value: u8) -> Result<Self::Value, Error>
-        ensures { Visits (gives self) (represents self) same (plain_event (ubyte value)) result }
+        ensures { Visits (gives self) (represents self) same (unchanged_event (ubyte value)) result }
     {
         self.visit(Visit::U8(value))
     }
 
     /// Visits a `u16`: calls `visit` with `Visit::U16`.
     final fn visit_u16(self, value: u16) -> Result<Self::Value, Error>
-        ensures { Visits (gives self) (represents self) same (plain_event (ushort value)) result }
+        ensures { Visits (gives self) (represents self) same (unchanged_event (ushort value)) result }
     {
         self.visit(Visit::U16(value))
     }
 
     /// Visits a `u32`: calls `visit` with `Visit::U32`.
     final fn visit_u32(self, value: u32) -> Result<Self::Value, Error>
-        ensures { Visits (gives self) (represents self) same (plain_event (uint value)) result }
+        ensures { Visits (gives self) (represents self) same (unchanged_event (uint value)) result }
     {
         self.visit(Visit::U32(value))
     }
 
     /// Visits a `u64`: calls `visit` with `Visit::U64`.
     final fn visit_u64(self, value: u64) -> Result<Self::Value, Error>
-        ensures { Visits (gives self) (represents self) same (plain_event (ulong value)) result }
+        ensures { Visits (gives self) (represents self) same (unchanged_event (ulong value)) result }
     {
         self.visit(Visit::U64(value))
     }
 
     /// Visits an `i8`: calls `visit` with `Visit::I8`.
     final fn visit_i8(self, value: i8) -> Result<Self::Value, Error>
-        ensures { Visits (gives self) (represents self) same (plain_event (byte value)) result }
+        ensures { Visits (gives self) (represents self) same (unchanged_event (byte value)) result }
     {
         self.visit(Visit::I8(value))
     }
 
     /// Visits an `i16`: calls `visit` with `Visit::I16`.
     final fn visit_i16(self, value: i16) -> Result<Self::Value, Error>
-        ensures { Visits (gives self) (represents self) same (plain_event (short value)) result }
+        ensures { Visits (gives self) (represents self) same (unchanged_event (short value)) result }
     {
         self.visit(Visit::I16(value))
     }
 
     /// Visits an `i32`: calls `visit` with `Visit::I32`.
     final fn visit_i32(self, value: i32) -> Result<Self::Value, Error>
-        ensures { Visits (gives self) (represents self) same (plain_event (int value)) result }
+        ensures { Visits (gives self) (represents self) same (unchanged_event (int value)) result }
     {
         self.visit(Visit::I32(value))
     }
 
     /// Visits an `i64`: calls `visit` with `Visit::I64`.
     final fn visit_i64(self, value: i64) -> Result<Self::Value, Error>
-        ensures { Visits (gives self) (represents self) same (plain_event (long value)) result }
+        ensures { Visits (gives self) (represents self) same (unchanged_event (long value)) result }
     {
         self.visit(Visit::I64(value))
     }
@@ -155,7 +155,7 @@ pub trait Visitor: Sized + Drop {
     /// Visits the bits of an `f32`: calls `visit` with `Visit::F32`.
     final fn visit_f32(self, value: F32Bits) -> Result<Self::Value, Error>
         ensures { Visits (gives self) (represents self) same
-            (plain_event (float (f32_bits value))) result }
+            (unchanged_event (float (f32_bits value))) result }
     {
         self.visit(Visit::F32(value))
     }
@@ -163,14 +163,14 @@ pub trait Visitor: Sized + Drop {
     /// Visits the bits of an `f64`: calls `visit` with `Visit::F64`.
     final fn visit_f64(self, value: F64Bits) -> Result<Self::Value, Error>
         ensures { Visits (gives self) (represents self) same
-            (plain_event (double (f64_bits value))) result }
+            (unchanged_event (double (f64_bits value))) result }
     {
         self.visit(Visit::F64(value))
     }
 
     /// Visits a `char`: calls `visit` with `Visit::Char`.
     final fn visit_char(self, value: char) -> Result<Self::Value, Error>
-        ensures { Visits (gives self) (represents self) same (plain_event (char value)) result }
+        ensures { Visits (gives self) (represents self) same (unchanged_event (char value)) result }
     {
         self.visit(Visit::Char(value))
     }
@@ -178,7 +178,7 @@ pub trait Visitor: Sized + Drop {
     /// Visits a `String`: calls `visit` with `Visit::String`.
     final fn visit_string(self, value: String) -> Result<Self::Value, Error>
         ensures { Visits (gives self) (represents self) same
-            (plain_event (string (string_bytes value))) result }
+            (unchanged_event (string (string_bytes value))) result }
     {
         self.visit(Visit::String(value))
     }
@@ -186,7 +186,7 @@ pub trait Visitor: Sized + Drop {
     /// Visits a binary: calls `visit` with `Visit::ByteBuf`.
     final fn visit_byte_buf(self, value: ByteBuf) -> Result<Self::Value, Error>
         ensures { Visits (gives self) (represents self) same
-            (plain_event (binary (byte_buf_bytes value))) result }
+            (unchanged_event (binary (byte_buf_bytes value))) result }
     {
         self.visit(Visit::ByteBuf(value))
     }

@@ -13,18 +13,18 @@ use Rattle.amqp_ser.proofs.Bools.{both, le_true, nat_eq-refl}
 use Rattle.amqp_ser.proofs.Unmarked.{unmarked}
 use Rattle.amqp_size.specs.declared.resolved_kind.ResolvedKind.{ResolvedKind}
 use Rattle.amqp_size.specs.declared.resolved_kind.ResolvedKind.TheVariants as resolved
-use Rattle.amqp_wire.specs.Places.{IsOrdinary, IsDescriptorCode}
+use Rattle.amqp_wire.specs.Positions.{IsOrdinary, IsDescriptorCode}
 use Rattle.amqp_wire.specs.Kept.{Kept, kept}
 use Rattle.amqp_wire.specs.When.{Promises}
 use Rattle.amqp_wire.specs.Gives.{Adding, Opening, Extending, Marking, When, Gave, puts, Gives, marked, class_of, HasIn, Has, AwaitsDescriptor}
 use Rattle.amqp_wire.specs.declared.pass.GaveUp.{GaveUp}
 use Rattle.amqp_wire.specs.declared.pass.Pass.{Pass}
 use Rattle.amqp_wire.specs.declared.pass_compound.PassCompound.{PassCompound}
-use Rattle.amqp_wire.specs.declared.place.Place.{Place}
-use Rattle.amqp_wire.specs.declared.place.Place.TheVariants as places
+use Rattle.amqp_wire.specs.declared.position.Position.{Position}
+use Rattle.amqp_wire.specs.declared.position.Position.TheVariants as positions
 use Rattle.amqp_wire.proofs.Given.{when2}
 use Rattle.amqp_wire.proofs.SinkLaws.{Laws, puts_after, has_extends, has_same}
-use Rattle.amqp_wire.proofs.PartSteps.{plain_puts, gives_extends}
+use Rattle.amqp_wire.proofs.PartSteps.{unmarked_puts, gives_extends}
 
 true_false : true ≡ false → ⊥
 true_false q = cc
@@ -114,32 +114,32 @@ record AddedDescriptor {K : Type 0} (adds : Adding K) (reads : Promises K) (befo
   ranged : When reads.ranges (IsRanged tree)
   out : adds before.sink (encoding tree) now.sink
 
-descriptor_gave : {K : Type 0} (adds : Adding K) (reads : Promises K) (before now : Pass K) (d : Option Tree) → puts adds reads before.sink places.Descriptor d now.sink now.place → AddedDescriptor adds reads before now d
+descriptor_gave : {K : Type 0} (adds : Adding K) (reads : Promises K) (before now : Pass K) (d : Option Tree) → puts adds reads before.sink positions.Descriptor d now.sink now.position → AddedDescriptor adds reads before now d
 descriptor_gave {K} adds reads before now None h = absurd h
 descriptor_gave {K} adds reads before now (Some t) h =
     let x = from_code t h.took.0 h.took.1.0 h.took.1.1 in
     record { tree = t; is = refl; descriptor = x.0; named = x.1; within_limits_it = h.within_limits_it; ranged = h.ranged; out = h.out }
 
 none_gives : {K : Type 0} (adds : Adding K) (reads : Promises K) (extends : Extending K) (s : Pass K) (o : Option Tree) (after : Pass K) → s.marker ≡ None → Gives adds reads extends s o (Ok tt) after → ⊥
-none_gives {K} adds reads extends s o after m h = subst (λ w. puts adds reads s.sink s.place (marked w o) after.sink after.place) m h
+none_gives {K} adds reads extends s o after m h = subst (λ w. puts adds reads s.sink s.position (marked w o) after.sink after.position) m h
 
 -- What was added before a descriptor, and the descriptor.
 record Prefix {K : Type 0} (adds : Adding K) (reads : Promises K) (old : K) (before now : Pass K) (d : Option Tree) : Type 0 where
   code_added : adds old (0x00 ∷ []) before.sink
   added : AddedDescriptor adds reads before now d
 
-prefix_of : {K : Type 0} (adds : Adding K) (reads : Promises K) (extends : Extending K) (old : K) (before now : Pass K) (d : Option Tree) → before.place ≡ places.Descriptor → (before.marker ≡ None) ⊎ ((before.marker ≡ Some marker.Other) × adds old (0x00 ∷ []) before.sink) → Gives adds reads extends before d (Ok tt) now → Prefix adds reads old before now d
+prefix_of : {K : Type 0} (adds : Adding K) (reads : Promises K) (extends : Extending K) (old : K) (before now : Pass K) (d : Option Tree) → before.position ≡ positions.Descriptor → (before.marker ≡ None) ⊎ ((before.marker ≡ Some marker.Other) × adds old (0x00 ∷ []) before.sink) → Gives adds reads extends before d (Ok tt) now → Prefix adds reads old before now d
 prefix_of {K} adds reads extends old before now d p (inl m) g = absurd (none_gives adds reads extends before d now m g)
-prefix_of {K} adds reads extends old before now d p (inr m) g = record { code_added = m.1; added = descriptor_gave adds reads before now d (subst (λ w. puts adds reads before.sink w d now.sink now.place) p (plain_puts adds reads extends before d now m.0 g)) }
+prefix_of {K} adds reads extends old before now d p (inr m) g = record { code_added = m.1; added = descriptor_gave adds reads before now d (subst (λ w. puts adds reads before.sink w d now.sink now.position) p (unmarked_puts adds reads extends before d now m.0 g)) }
 
-ordinary_gave : {K : Type 0} (adds : Adding K) (reads : Promises K) (a b : K) (p q : Place) (t : Tree) → IsOrdinary p → (reads.sound b → within_limits t ≡ true) → uniform_arrays t ≡ true → placed t ≡ true → inside t ≡ true → When reads.ranges (IsRanged t) → adds a (encoding t) b → Gave adds reads a p t b q
-ordinary_gave {K} adds reads a b places.Root q t o w u p i r h = record { within_limits_it = w; uniform_arrays_it = u; fits_it = p; ranged = r; took = tt; out = h }
-ordinary_gave {K} adds reads a b places.Inside q t o w u p i r h = record { within_limits_it = w; uniform_arrays_it = u; fits_it = i; ranged = r; took = tt; out = h }
-ordinary_gave {K} adds reads a b places.Descriptor q t o w u p i r h = absurd o
-ordinary_gave {K} adds reads a b places.First q t o w u p i r h = absurd o
-ordinary_gave {K} adds reads a b (places.Element c) q t o w u p i r h = absurd o
+ordinary_gave : {K : Type 0} (adds : Adding K) (reads : Promises K) (a b : K) (p q : Position) (t : Tree) → IsOrdinary p → (reads.sound b → within_limits t ≡ true) → uniform_arrays t ≡ true → placed t ≡ true → inside t ≡ true → When reads.ranges (IsRanged t) → adds a (encoding t) b → Gave adds reads a p t b q
+ordinary_gave {K} adds reads a b positions.Root q t o w u p i r h = record { within_limits_it = w; uniform_arrays_it = u; fits_it = p; ranged = r; took = tt; out = h }
+ordinary_gave {K} adds reads a b positions.Inside q t o w u p i r h = record { within_limits_it = w; uniform_arrays_it = u; fits_it = i; ranged = r; took = tt; out = h }
+ordinary_gave {K} adds reads a b positions.Descriptor q t o w u p i r h = absurd o
+ordinary_gave {K} adds reads a b positions.First q t o w u p i r h = absurd o
+ordinary_gave {K} adds reads a b (positions.Element c) q t o w u p i r h = absurd o
 
-described_puts : {K : Type 0} (adds : Adding K) (reads : Promises K) (within : Opening K) (extends : Extending K) → Laws adds reads within extends → (start before now end : Pass K) (old : K) (d o : Option Tree) → IsOrdinary start.place → adds start.sink [] old → (f : Prefix adds reads old before now d) → puts adds reads now.sink places.Inside o end.sink end.place → puts adds reads start.sink start.place (as_described (Some f.added.descriptor) o) end.sink end.place
+described_puts : {K : Type 0} (adds : Adding K) (reads : Promises K) (within : Opening K) (extends : Extending K) → Laws adds reads within extends → (start before now end : Pass K) (old : K) (d o : Option Tree) → IsOrdinary start.position → adds start.sink [] old → (f : Prefix adds reads old before now d) → puts adds reads now.sink positions.Inside o end.sink end.position → puts adds reads start.sink start.position (as_described (Some f.added.descriptor) o) end.sink end.position
 described_puts {K} adds reads within extends L start before now end old d None p s f h = absurd h
 described_puts {K} adds reads within extends L start before now end old d (Some u) p s f h =
     let a = f.added in
@@ -148,38 +148,38 @@ described_puts {K} adds reads within extends L start before now end old d (Some 
     let one : adds start.sink (0x00 ∷ []) before.sink = L.chains start.sink old before.sink [] (0x00 ∷ []) s f.code_added in
     let all : adds start.sink (0x00 ∷ (encoding a.tree ++ encoding u)) end.sink = L.chains start.sink now.sink end.sink (0x00 ∷ encoding a.tree) (encoding u) (L.chains start.sink before.sink now.sink (0x00 ∷ []) (encoding a.tree) one a.out) h.out in
     let whole : adds start.sink (encoding (described x u)) end.sink = subst (λ bs. adds start.sink (0x00 ∷ (bs ++ encoding u)) end.sink) form.0 all in
-    ordinary_gave adds reads start.sink end.sink start.place end.place (described x u) p
+    ordinary_gave adds reads start.sink end.sink start.position end.position (described x u) p
     (λ v. both (is_length (length (encoding (described x u)))) (descriptor_fits x && within_limits u) (le_true (length (encoding (described x u))) 18446744073709551615 (L.bounded start.sink end.sink (encoding (described x u)) whole v)) (both (descriptor_fits x) (within_limits u) (form.1.0 (a.within_limits_it (L.keeps now.sink end.sink (L.longer now.sink end.sink (encoding u) h.out) v))) (h.within_limits_it v)))
     h.uniform_arrays_it h.fits_it h.fits_it (when2 reads.ranges (λ d v. (form.1.1 d, v)) a.ranged h.ranged) whole
 
-described_gives : {K : Type 0} (adds : Adding K) (reads : Promises K) (within : Opening K) (extends : Extending K) → Laws adds reads within extends → (start before now mid end : Pass K) (old : K) (d t : Option Tree) (r : Result (Unit {0}) GaveUp) → start.marker ≡ Some marker.Other → IsOrdinary start.place → adds start.sink [] old → extends start.sink now.sink → Prefix adds reads old before now d →
-    mid.sink ≡ now.sink → mid.place ≡ places.Inside → mid.marker ≡ Some marker.Other → Gives adds reads extends mid t r end → Gives adds reads extends start (as_described (descriptor_of d) t) r end
+described_gives : {K : Type 0} (adds : Adding K) (reads : Promises K) (within : Opening K) (extends : Extending K) → Laws adds reads within extends → (start before now mid end : Pass K) (old : K) (d t : Option Tree) (r : Result (Unit {0}) GaveUp) → start.marker ≡ Some marker.Other → IsOrdinary start.position → adds start.sink [] old → extends start.sink now.sink → Prefix adds reads old before now d →
+    mid.sink ≡ now.sink → mid.position ≡ positions.Inside → mid.marker ≡ Some marker.Other → Gives adds reads extends mid t r end → Gives adds reads extends start (as_described (descriptor_of d) t) r end
 described_gives {K} adds reads within extends L start before now mid end old d t (Err e) m p s x f a b c h = L.on start.sink now.sink end.sink x (subst (λ w. extends w end.sink) a h)
 described_gives {K} adds reads within extends L start before now mid end old d t (Ok u) m p s x f a b c h =
-    let q : puts adds reads now.sink places.Inside t end.sink end.place = subst (λ w. puts adds reads w places.Inside t end.sink end.place) a (subst (λ w. puts adds reads mid.sink w t end.sink end.place) b (plain_puts adds reads extends mid t end c h)) in
+    let q : puts adds reads now.sink positions.Inside t end.sink end.position = subst (λ w. puts adds reads w positions.Inside t end.sink end.position) a (subst (λ w. puts adds reads mid.sink w t end.sink end.position) b (unmarked_puts adds reads extends mid t end c h)) in
     let given = described_puts adds reads within extends L start before now end old d t p s f q in
     let is : descriptor_of d ≡ Some f.added.descriptor = ap descriptor_of f.added.is ∙ f.added.named in
     let o = as_described (descriptor_of d) t in
-    let named : puts adds reads start.sink start.place o end.sink end.place = subst (λ w. puts adds reads start.sink start.place (as_described w t) end.sink end.place) (sym is) given in
-    subst (λ w. puts adds reads start.sink start.place (marked w o) end.sink end.place) (sym m) (subst (λ w. puts adds reads start.sink start.place w end.sink end.place) (sym (unmarked o)) named)
+    let named : puts adds reads start.sink start.position o end.sink end.position = subst (λ w. puts adds reads start.sink start.position (as_described w t) end.sink end.position) (sym is) given in
+    subst (λ w. puts adds reads start.sink start.position (marked w o) end.sink end.position) (sym m) (subst (λ w. puts adds reads start.sink start.position w end.sink end.position) (sym (unmarked o)) named)
 
 described_from : {K : Type 0} (adds : Adding K) (reads : Promises K) (within : Opening K) (extends : Extending K) (marks : Marking K) → Laws adds reads within extends → (start before now : Pass K) (c : PassCompound) (d : Option Tree) → AwaitsDescriptor adds reads within extends marks start before c → Gives adds reads extends before d (Ok tt) now → extends start.sink now.sink
 described_from {K} adds reads within extends marks L start before now c d w g =
     L.on start.sink w.old now.sink (has_extends adds reads within extends marks L (class_of c.kind) c.kind start kinds.Single w.old (kept c) [] w.has) (L.on w.old before.sink now.sink w.since (gives_extends adds reads within extends L before d (Ok tt) now g))
 
 -- The value after a descriptor.
-pub described_next : {K : Type 0} (adds : Adding K) (reads : Promises K) (within : Opening K) (extends : Extending K) (marks : Marking K) → Laws adds reads within extends → (start before now after : Pass K) (c new : PassCompound) (d : Option Tree) (part : Result (Unit {0}) GaveUp) (u : Unit {0}) → part ≡ Ok u → c.kind ≡ resolved.Single → c.marker ≡ Some marker.Other → IsOrdinary c.place →
-    new.kind ≡ c.kind → new.count ≡ c.count → new.marker ≡ c.marker → new.place ≡ places.Inside → adds now.sink [] after.sink → AwaitsDescriptor adds reads within extends marks start before c → Gives adds reads extends before d part now →
+pub described_next : {K : Type 0} (adds : Adding K) (reads : Promises K) (within : Opening K) (extends : Extending K) (marks : Marking K) → Laws adds reads within extends → (start before now after : Pass K) (c new : PassCompound) (d : Option Tree) (part : Result (Unit {0}) GaveUp) (u : Unit {0}) → part ≡ Ok u → c.kind ≡ resolved.Single → c.marker ≡ Some marker.Other → IsOrdinary c.position →
+    new.kind ≡ c.kind → new.count ≡ c.count → new.marker ≡ c.marker → new.position ≡ positions.Inside → adds now.sink [] after.sink → AwaitsDescriptor adds reads within extends marks start before c → Gives adds reads extends before d part now →
     (mid : Pass K) × (Has adds reads within extends marks mid kinds.Single after new [] × ((t : Option Tree) (r : Result (Unit {0}) GaveUp) (end : Pass K) → Gives adds reads extends mid t r end → Gives adds reads extends start (as_described (descriptor_of d) t) r end))
 described_next {K} adds reads within extends marks L start before now after c new d part u is k m p e n f q s w g =
     let g : Gives adds reads extends before d (Ok tt) now = subst (λ x. Gives adds reads extends before d x now) is g in
     let h : HasIn adds reads within extends marks resolved.Single start kinds.Single w.old (kept c) [] = subst (λ x. HasIn adds reads within extends marks x start kinds.Single w.old (kept c) []) k w.has in
-    let mid : Pass K = record { sink = now.sink; place = places.Inside; marker = Some marker.Other; tries_parts = true } in
+    let mid : Pass K = record { sink = now.sink; position = positions.Inside; marker = Some marker.Other; tries_parts = true } in
     let x = described_from adds reads within extends marks L start before now c d w g in (
       mid,
       (
         subst (λ x. HasIn adds reads within extends marks x mid kinds.Single after.sink (kept new) []) (sym (e ∙ k)) (refl, (n ∙ h.1.0, (s, (f ∙ m, q)))),
-        λ t r end y. described_gives adds reads within extends L start before now mid end w.old d t r (sym h.1.1.1.0 ∙ m) (subst IsOrdinary h.1.1.1.1 p) h.1.1.0 x (prefix_of adds reads extends w.old before now d w.place w.marker_is g) refl refl refl y,
+        λ t r end y. described_gives adds reads within extends L start before now mid end w.old d t r (sym h.1.1.1.0 ∙ m) (subst IsOrdinary h.1.1.1.1 p) h.1.1.0 x (prefix_of adds reads extends w.old before now d w.position w.marker_is g) refl refl refl y,
       ),
     )
 
@@ -193,7 +193,7 @@ pub refused_next : {K : Type 0} (adds : Adding K) (reads : Promises K) (within :
     (mid : Pass K) × (Has adds reads within extends marks mid kinds.Single after new [] × ((t : Option Tree) (r : Result (Unit {0}) GaveUp) (end : Pass K) → Gives adds reads extends mid t r end → Gives adds reads extends start (as_described (descriptor_of d) t) r end))
 refused_next {K} adds reads within extends marks L start before now after c new d part u is k m s w g =
     let g : Gives adds reads extends before d (Ok tt) now = subst (λ x. Gives adds reads extends before d x now) is g in
-    let mid : Pass K = record { sink = after.sink; place = places.Inside; marker = None; tries_parts = true } in
+    let mid : Pass K = record { sink = after.sink; position = positions.Inside; marker = None; tries_parts = true } in
     let x = L.on start.sink now.sink after.sink (described_from adds reads within extends marks L start before now c d w g) (L.longer now.sink after.sink [] s) in (
       mid,
       (
@@ -222,12 +222,12 @@ single_variant i q = cc
 single_newtype_variant : (i : ℕ) → kinds.Single ≡ kinds.NewtypeVariant i → ⊥
 single_newtype_variant i q = cc
 
-resumed_in : {K : Type 0} (adds : Adding K) (reads : Promises K) (within : Opening K) (extends : Extending K) (marks : Marking K) → Laws adds reads within extends → (k : ResolvedKind) (start : Pass K) (now : K) (next : Pass K) (c : Kept) → next.sink ≡ now → next.place ≡ c.place → next.marker ≡ c.marker → HasIn adds reads within extends marks k start kinds.Single now c [] →
+resumed_in : {K : Type 0} (adds : Adding K) (reads : Promises K) (within : Opening K) (extends : Extending K) (marks : Marking K) → Laws adds reads within extends → (k : ResolvedKind) (start : Pass K) (now : K) (next : Pass K) (c : Kept) → next.sink ≡ now → next.position ≡ c.position → next.marker ≡ c.marker → HasIn adds reads within extends marks k start kinds.Single now c [] →
     (t : Option Tree) (after : Pass K) → Gives adds reads extends next t (Ok tt) after → Gives adds reads extends start t (Ok tt) after
 resumed_in {K} adds reads within extends marks L resolved.Refused start now next c a b m h t after g = absurd (none_gives adds reads extends next t after (m ∙ h.0) g)
 resumed_in {K} adds reads within extends marks L resolved.Single start now next c a b m h t after g =
-    puts_after adds reads within extends L start.sink now after.sink start.place after.place (marked start.marker t) h.1.1.0
-    (subst (λ w. puts adds reads now start.place (marked w t) after.sink after.place) (m ∙ h.1.1.1.0) (subst (λ w. puts adds reads now w (marked next.marker t) after.sink after.place) (b ∙ h.1.1.1.1) (subst (λ w. puts adds reads w next.place (marked next.marker t) after.sink after.place) a g)))
+    puts_after adds reads within extends L start.sink now after.sink start.position after.position (marked start.marker t) h.1.1.0
+    (subst (λ w. puts adds reads now start.position (marked w t) after.sink after.position) (m ∙ h.1.1.1.0) (subst (λ w. puts adds reads now w (marked next.marker t) after.sink after.position) (b ∙ h.1.1.1.1) (subst (λ w. puts adds reads w next.position (marked next.marker t) after.sink after.position) a g)))
 resumed_in {K} adds reads within extends marks L resolved.List start now next c a b m h t after g = absurd (single_list h.kind_is)
 resumed_in {K} adds reads within extends marks L resolved.Map start now next c a b m h t after g = absurd (single_map h.kind_is)
 resumed_in {K} adds reads within extends marks L (resolved.Variant i) start now next c a b m h t after g = absurd (single_variant i h.kind_is)
@@ -236,14 +236,14 @@ resumed_in {K} adds reads within extends marks L resolved.Array start now next c
 resumed_in {K} adds reads within extends marks L resolved.Transparent start now next c a b m h t after g = absurd (single_list h.kind_is)
 
 -- The part of a single compound has its position.
-pub resumed : {K : Type 0} (adds : Adding K) (reads : Promises K) (within : Opening K) (extends : Extending K) (marks : Marking K) → Laws adds reads within extends → (start now next : Pass K) (c : PassCompound) → next.sink ≡ now.sink → next.place ≡ c.place → next.marker ≡ c.marker → Has adds reads within extends marks start kinds.Single now c [] →
+pub resumed : {K : Type 0} (adds : Adding K) (reads : Promises K) (within : Opening K) (extends : Extending K) (marks : Marking K) → Laws adds reads within extends → (start now next : Pass K) (c : PassCompound) → next.sink ≡ now.sink → next.position ≡ c.position → next.marker ≡ c.marker → Has adds reads within extends marks start kinds.Single now c [] →
     (t : Option Tree) (r : Result (Unit {0}) GaveUp) (after : Pass K) → Gives adds reads extends next t r after → Gives adds reads extends start t r after
 resumed {K} adds reads within extends marks L start now next c a b m h t (Err e) after g = L.on start.sink now.sink after.sink (has_extends adds reads within extends marks L (class_of c.kind) c.kind start kinds.Single now.sink (kept c) [] h) (subst (λ w. extends w after.sink) a g)
 resumed {K} adds reads within extends marks L start now next c a b m h t (Ok u) after g = resumed_in adds reads within extends marks L c.kind start now.sink next (kept c) a b m h t after g
 
 -- A pass whose sink returned to where it was permits what it permitted.
-pub gives_after : {K : Type 0} (adds : Adding K) (reads : Promises K) (within : Opening K) (extends : Extending K) → Laws adds reads within extends → (s next : Pass K) (t : Option Tree) (r : Result (Unit {0}) GaveUp) (after : Pass K) → adds s.sink [] next.sink → next.place ≡ s.place → next.marker ≡ s.marker → Gives adds reads extends next t r after → Gives adds reads extends s t r after
+pub gives_after : {K : Type 0} (adds : Adding K) (reads : Promises K) (within : Opening K) (extends : Extending K) → Laws adds reads within extends → (s next : Pass K) (t : Option Tree) (r : Result (Unit {0}) GaveUp) (after : Pass K) → adds s.sink [] next.sink → next.position ≡ s.position → next.marker ≡ s.marker → Gives adds reads extends next t r after → Gives adds reads extends s t r after
 gives_after {K} adds reads within extends L s next t (Err e) after a p m h = L.on s.sink next.sink after.sink (L.longer s.sink next.sink [] a) h
 gives_after {K} adds reads within extends L s next t (Ok u) after a p m h =
-    puts_after adds reads within extends L s.sink next.sink after.sink s.place after.place (marked s.marker t) a
-    (subst (λ w. puts adds reads next.sink s.place (marked w t) after.sink after.place) m (subst (λ w. puts adds reads next.sink w (marked next.marker t) after.sink after.place) p h))
+    puts_after adds reads within extends L s.sink next.sink after.sink s.position after.position (marked s.marker t) a
+    (subst (λ w. puts adds reads next.sink s.position (marked w t) after.sink after.position) m (subst (λ w. puts adds reads next.sink w (marked next.marker t) after.sink after.position) p h))

@@ -56,9 +56,9 @@ cut_back a b n e h = ap (λ m. take m b) e ∙ (ap (λ l. take (length a) l) h.1
 
 -- A compound whose body has the length and the count of its hint, in a buffer.
 pub closed_out : (a b : Appender) (e : Bool) (k : HeaderKind) (o : Opened) (n : ℕ) (body : List ℕ) → Inside a e k o b body → o.at + o.start ≡ length b.out.items → n ≡ o.count → o.at ≤ 4294967291 → n ≤ 4294967295 → length b.out.items ≤ 18446744073709551615 →
-    (b.spoiled ≡ false → (fits (length body) ≡ true) × (is_count n ≡ true)) × Appends a (form e k n body) b
+    (b.poisoned ≡ false → (fits (length body) ≡ true) × (is_count n ≡ true)) × Appends a (form e k n body) b
 closed_out a b e k o n body h at count fit few bound =
-    let size : b.spoiled ≡ false → o.at ≡ length body = λ s.
+    let size : b.poisoned ≡ false → o.at ≡ length body = λ s.
     let x : length b.out.items ≡ length (a.out.items ++ header e k o.count o.at) + length body = ap length (h.out s) ∙ length-append (a.out.items ++ header e k o.count o.at) body in
     let y = h.start s in
     omega arith in (
@@ -72,10 +72,10 @@ closed_out a b e k o n body h at count fit few bound =
       },
     )
 
--- A buffer that is spoiled.
-pub spoiled_out : (a b c : Appender) (e : Bool) (k : HeaderKind) (o : Opened) (n : ℕ) (body : List ℕ) → Inside a e k o b body → c.spoiled ≡ true → c.out.items ≡ b.out.items → length b.out.items ≤ 18446744073709551615 →
-    (c.spoiled ≡ false → (fits (length body) ≡ true) × (is_count n ≡ true)) × Appends a (form e k n body) c
-spoiled_out a b c e k o n body h s i bound = (
+-- A buffer that is poisoned.
+pub poisoned_out : (a b c : Appender) (e : Bool) (k : HeaderKind) (o : Opened) (n : ℕ) (body : List ℕ) → Inside a e k o b body → c.poisoned ≡ true → c.out.items ≡ b.out.items → length b.out.items ≤ 18446744073709551615 →
+    (c.poisoned ≡ false → (fits (length body) ≡ true) × (is_count n ≡ true)) × Appends a (form e k n body) c
+poisoned_out a b c e k o n body h s i bound = (
   λ f. absurd (true_false (sym s ∙ f)),
   record {
     longer = ((h.longer.0.0, i ∙ h.longer.0.1), λ f. absurd (true_false (sym s ∙ f)));
@@ -85,7 +85,7 @@ spoiled_out a b c e k o n body h s i bound = (
 )
 
 -- A buffer that returned to a mark.
-pub restored_out : (a b c : Appender) (m : Mark) → OutMarks a m → Longer a b → c.out.items ≡ take m.len b.out.items → c.spoiled ≡ m.spoiled → length c.out.items ≤ 18446744073709551615 → Appends a [] c
+pub restored_out : (a b c : Appender) (m : Mark) → OutMarks a m → Longer a b → c.out.items ≡ take m.len b.out.items → c.poisoned ≡ m.poisoned → length c.out.items ≤ 18446744073709551615 → Appends a [] c
 restored_out a b c m k h e s bound =
     let same : c.out.items ≡ a.out.items ++ [] = e ∙ (cut_back a.out.items b.out.items m.len k.0 h.0 ∙ sym (append-nil a.out.items)) in
     record { longer = (([], same), λ f. sym (s ∙ k.1) ∙ f); out = λ f. same; few = bound }

@@ -3,8 +3,8 @@ use Rattle.std.proofs.Common.{◌≡◌, ◌⊎◌, inl, inr, ℕ, ◌≤◌, Li
 use Rattle.std.specs.Prelude.{ℤ}
 use Rattle.std.specs.Int.{w32, w64, to_be_bytes}
 use Rattle.std.specs.Str.{IsUtf8}
-use Rattle.amqp_frame.specs.Whole.{is_frame}
-use Rattle.amqp_frame.proofs.Whole.{passes_frame}
+use Rattle.amqp_frame.specs.Whole.{is_encoded_value}
+use Rattle.amqp_frame.proofs.Whole.{passes_encoded_value}
 use Rattle.amqp_ser.specs.Tree.{Scalar, Tree, scalar, timestamp, string, symbol, binary, list, array, map, described, variant, lazy, transparent}
 use Rattle.amqp_ser.specs.Encoding.{encoding, payload, constructor, code_list}
 use Rattle.amqp_ser.specs.Scalars.{scalar_code, scalar_form, scalar_payload, signed_bytes, sized}
@@ -22,14 +22,14 @@ use Rattle.amqp_size.specs.ScalarEncoding.{form_bytes, form_payload}
 use Rattle.amqp_size.specs.declared.scalar_encoding.ScalarEncoding.{ScalarEncoding}
 use Rattle.amqp_size.specs.MarkedBytes.{IsExact, exact_scalar, marked_bytes}
 use Rattle.amqp_size.specs.declared.scalar_marker.ScalarMarker.{ScalarMarker}
-use Rattle.amqp_wire.specs.Places.{is_element, Admits, Led, pick, bytes_at, fits_place, Took}
+use Rattle.amqp_wire.specs.Positions.{is_element, Admits, Led, pick, bytes_at, fits_position, Took}
 use Rattle.amqp_wire.specs.ScalarForms.{HasForms, IsNumber, IsText}
 use Rattle.amqp_wire.specs.When.{Promises}
 use Rattle.amqp_wire.specs.Gives.{Adding, Extending, When, marked, Gave, puts, Gives}
 use Rattle.amqp_wire.specs.declared.pass.GaveUp.{GaveUp}
 use Rattle.amqp_wire.specs.declared.pass.Pass.{Pass}
-use Rattle.amqp_wire.specs.declared.place.Place.{Place}
-use Rattle.amqp_wire.specs.declared.place.Place.TheVariants as places
+use Rattle.amqp_wire.specs.declared.position.Position.{Position}
+use Rattle.amqp_wire.specs.declared.position.Position.TheVariants as positions
 
 abbrev pub Chains : {K : Type 0} → Adding K → Type 0
 Chains {K} adds = (a b c : K) (x y : List ℕ) → adds a x b → adds b y c → adds a (x ++ y) c
@@ -49,19 +49,19 @@ pub when2 : {X Y Z : Type 0} (b : Bool) → (X → Y → Z) → When b X → Whe
 when2 true f x y = f x y
 when2 false f x y = tt
 
-standing : (p q : Place) (t : Tree) (c : ℕ) → constructor t ≡ Some c → Admits p c q → Took p t q
-standing places.Root q t c e h = tt
-standing places.Inside q t c e h = tt
-standing places.Descriptor q t c e h = (c, (e, h.0))
-standing places.First q t c e h = (c, (e, h))
-standing (places.Element d) q t c e h = (e ∙ ap Some (sym h.0), h.1 ∙ ap places.Element (sym h.0))
+standing : (p q : Position) (t : Tree) (c : ℕ) → constructor t ≡ Some c → Admits p c q → Took p t q
+standing positions.Root q t c e h = tt
+standing positions.Inside q t c e h = tt
+standing positions.Descriptor q t c e h = (c, (e, h.0))
+standing positions.First q t c e h = (c, (e, h))
+standing (positions.Element d) q t c e h = (e ∙ ap Some (sym h.0), h.1 ∙ ap positions.Element (sym h.0))
 
-led_bytes : {K : Type 0} (adds : Adding K) → Chains adds → (a m b : K) (p : Place) (t : Tree) (c : ℕ) → constructor t ≡ Some c → Led adds p c a m → adds m (pick (is_element p) (encoding t) (payload t)) b → adds a (bytes_at p t) b
-led_bytes adds chains a m b places.Root t c e l h = subst (λ w. adds w (encoding t) b) l h
-led_bytes adds chains a m b places.Inside t c e l h = subst (λ w. adds w (encoding t) b) l h
-led_bytes adds chains a m b places.Descriptor t c e l h = subst (λ w. adds w (encoding t) b) l h
-led_bytes adds chains a m b places.First t c e l h = subst (λ o. adds a (code_list o ++ payload t) b) (sym e) (chains a m b (c ∷ []) (payload t) l h)
-led_bytes adds chains a m b (places.Element d) t c e l h = subst (λ w. adds w (payload t) b) l h
+led_bytes : {K : Type 0} (adds : Adding K) → Chains adds → (a m b : K) (p : Position) (t : Tree) (c : ℕ) → constructor t ≡ Some c → Led adds p c a m → adds m (pick (is_element p) (encoding t) (payload t)) b → adds a (bytes_at p t) b
+led_bytes adds chains a m b positions.Root t c e l h = subst (λ w. adds w (encoding t) b) l h
+led_bytes adds chains a m b positions.Inside t c e l h = subst (λ w. adds w (encoding t) b) l h
+led_bytes adds chains a m b positions.Descriptor t c e l h = subst (λ w. adds w (encoding t) b) l h
+led_bytes adds chains a m b positions.First t c e l h = subst (λ o. adds a (code_list o ++ payload t) b) (sym e) (chains a m b (c ∷ []) (payload t) l h)
+led_bytes adds chains a m b (positions.Element d) t c e l h = subst (λ w. adds w (payload t) b) l h
 
 pub inside_placed : (t : Tree) → inside t ≡ true → placed t ≡ true
 inside_placed (scalar s) h = refl
@@ -73,15 +73,15 @@ inside_placed (variant i t) h = h
 inside_placed (lazy bs) h = refl
 inside_placed (transparent ts) h = cc
 
-pub inside_fits : (p : Place) (t : Tree) → inside t ≡ true → fits_place p t ≡ true
-inside_fits places.Root t h = inside_placed t h
-inside_fits places.Inside t h = h
-inside_fits places.Descriptor t h = h
-inside_fits places.First t h = h
-inside_fits (places.Element c) t h = h
+pub inside_fits : (p : Position) (t : Tree) → inside t ≡ true → fits_position p t ≡ true
+inside_fits positions.Root t h = inside_placed t h
+inside_fits positions.Inside t h = h
+inside_fits positions.Descriptor t h = h
+inside_fits positions.First t h = h
+inside_fits (positions.Element c) t h = h
 
--- A tree with a constructor was added at a place that admits it.
-pub gave_at : {K : Type 0} (adds : Adding K) (reads : Promises K) → Chains adds → (a m b : K) (p q : Place) (t : Tree) (c : ℕ) → constructor t ≡ Some c → Admits p c q → Led adds p c a m → adds m (pick (is_element p) (encoding t) (payload t)) b →
+-- A tree with a constructor was added at a position that admits it.
+pub gave_at : {K : Type 0} (adds : Adding K) (reads : Promises K) → Chains adds → (a m b : K) (p q : Position) (t : Tree) (c : ℕ) → constructor t ≡ Some c → Admits p c q → Led adds p c a m → adds m (pick (is_element p) (encoding t) (payload t)) b →
     (reads.sound b → within_limits t ≡ true) → uniform_arrays t ≡ true → inside t ≡ true → When reads.ranges (IsRanged t) → Gave adds reads a p t b q
 gave_at {K} adds reads chains a m b p q t c e d l h w u i r = record {
   within_limits_it = w;
@@ -108,8 +108,8 @@ fixed_fits (fixed.Double n) = refl
 fixed_fits (fixed.Char c) = refl
 
 -- The forms of a value of fixed width.
-pub plain_number : (m : Option Marker) (f : Fixed) (a o : ScalarEncoding) → m ≡ Some marker.Other → a.code ≡ scalar_code (fixed_scalar f) → form_payload a ≡ scalar_payload (fixed_scalar f) → IsRangedScalar (fixed_scalar f) → form_bytes o ≡ scalar_form (fixed_scalar f) → IsNumber m f a o
-plain_number m f a o e k p r b = record {
+pub unmarked_number : (m : Option Marker) (f : Fixed) (a o : ScalarEncoding) → m ≡ Some marker.Other → a.code ≡ scalar_code (fixed_scalar f) → form_payload a ≡ scalar_payload (fixed_scalar f) → IsRangedScalar (fixed_scalar f) → form_bytes o ≡ scalar_form (fixed_scalar f) → IsNumber m f a o
+unmarked_number m f a o e k p r b = record {
   value = fixed_scalar f;
   marked_is = ap (λ w. marked w (Some (scalar (fixed_scalar f)))) e;
   forms = record { code_is = sym k; form = sym b; payload = sym p; fits_it = fixed_fits f; ranged = r };
@@ -126,7 +126,7 @@ timestamp_number m f z a t e i p r k q =
     }
 
 -- A number was added.
-pub number_gave : {K : Type 0} (adds : Adding K) (reads : Promises K) → Chains adds → (a m b : K) (p q : Place) (in_array ordinary : ScalarEncoding) (x : Scalar) (e : Bool) → HasForms in_array ordinary x → e ≡ is_element p → Admits p in_array.code q → Led adds p in_array.code a m →
+pub number_gave : {K : Type 0} (adds : Adding K) (reads : Promises K) → Chains adds → (a m b : K) (p q : Position) (in_array ordinary : ScalarEncoding) (x : Scalar) (e : Bool) → HasForms in_array ordinary x → e ≡ is_element p → Admits p in_array.code q → Led adds p in_array.code a m →
     adds m (pick e (form_bytes ordinary) (form_payload in_array)) b → Gave adds reads a p (scalar x) b q
 number_gave {K} adds reads chains a m b p q in_array ordinary x e f i d l h =
     gave_at adds reads chains a m b p q (scalar x) in_array.code (ap Some f.code_is) d l
@@ -135,12 +135,12 @@ number_gave {K} adds reads chains a m b p q in_array ordinary x e f i d l h =
 
 -- The answer of a call that puts a number.
 pub number_put : {K : Type 0} (adds : Adding K) (reads : Promises K) (extends : Extending K) (s after : Pass K) (f : Fixed) (in_array ordinary : ScalarEncoding) (put : Bool) (res : Result (Unit {0}) GaveUp) → IsNumber s.marker f in_array ordinary → extends s.sink after.sink →
-    (put ≡ true → (x : Scalar) → HasForms in_array ordinary x → Gave adds reads s.sink s.place (scalar x) after.sink after.place) → MatchResult res (λ _. put ≡ true) (λ _. Unit {0}) → Gives adds reads extends s (Some (scalar (fixed_scalar f))) res after
+    (put ≡ true → (x : Scalar) → HasForms in_array ordinary x → Gave adds reads s.sink s.position (scalar x) after.sink after.position) → MatchResult res (λ _. put ≡ true) (λ _. Unit {0}) → Gives adds reads extends s (Some (scalar (fixed_scalar f))) res after
 number_put {K} adds reads extends s after f in_array ordinary put (Err e) n g h m = g
-number_put {K} adds reads extends s after f in_array ordinary put (Ok u) n g h m = subst (λ o. puts adds reads s.sink s.place o after.sink after.place) (sym n.marked_is) (h m n.value n.forms)
+number_put {K} adds reads extends s after f in_array ordinary put (Ok u) n g h m = subst (λ o. puts adds reads s.sink s.position o after.sink after.position) (sym n.marked_is) (h m n.value n.forms)
 
 -- A text or a binary.
-pub text_gave : {K : Type 0} (adds : Adding K) (reads : Promises K) → Chains adds → (a m b : K) (p q : Place) (x : Scalar) (bs : List ℕ) (short c : ℕ) (e : Bool) → scalar_code x ≡ c → scalar_form x ≡ sized short c bs → scalar_payload x ≡ to_be_bytes w32 (length bs) ++ bs → scalar_fits x ≡ fits (length bs) → IsRangedScalar x →
+pub text_gave : {K : Type 0} (adds : Adding K) (reads : Promises K) → Chains adds → (a m b : K) (p q : Position) (x : Scalar) (bs : List ℕ) (short c : ℕ) (e : Bool) → scalar_code x ≡ c → scalar_form x ≡ sized short c bs → scalar_payload x ≡ to_be_bytes w32 (length bs) ++ bs → scalar_fits x ≡ fits (length bs) → IsRangedScalar x →
     e ≡ is_element p → Admits p c q → Led adds p c a m → fits (length bs) ≡ true → adds m (pick e (sized short c bs) (to_be_bytes w32 (length bs) ++ bs)) b → Gave adds reads a p (scalar x) b q
 text_gave {K} adds reads chains a m b p q x bs short c e k f y w r i d l z h =
     gave_at adds reads chains a m b p q (scalar x) c (ap Some k) d l
@@ -172,11 +172,11 @@ symbol_text m short long e s l bs u = record {
 
 -- The answer of a call that puts a text.
 pub text_given : {K : Type 0} (adds : Adding K) (reads : Promises K) (extends : Extending K) (s after : Pass K) (bs : List ℕ) (short long : ℕ) (put : Bool) (res : Result (Unit {0}) GaveUp) → ((b : List ℕ) → IsUtf8 b → IsText s.marker short long b) → IsUtf8 bs → extends s.sink after.sink →
-    (put ≡ true → (x : Scalar) → scalar_code x ≡ long → scalar_form x ≡ sized short long bs → scalar_payload x ≡ to_be_bytes w32 (length bs) ++ bs → scalar_fits x ≡ fits (length bs) → IsRangedScalar x → Gave adds reads s.sink s.place (scalar x) after.sink after.place) → MatchResult res (λ _. put ≡ true) (λ _. Unit {0}) → Gives adds reads extends s (Some (scalar (string bs))) res after
+    (put ≡ true → (x : Scalar) → scalar_code x ≡ long → scalar_form x ≡ sized short long bs → scalar_payload x ≡ to_be_bytes w32 (length bs) ++ bs → scalar_fits x ≡ fits (length bs) → IsRangedScalar x → Gave adds reads s.sink s.position (scalar x) after.sink after.position) → MatchResult res (λ _. put ≡ true) (λ _. Unit {0}) → Gives adds reads extends s (Some (scalar (string bs))) res after
 text_given {K} adds reads extends s after bs short long put (Err e) n u g h m = g
 text_given {K} adds reads extends s after bs short long put (Ok v) n u g h m =
     let t = n bs u in
-    subst (λ o. puts adds reads s.sink s.place o after.sink after.place) (sym t.marked_is) (h m t.value t.code_is t.form t.payload t.fits_it t.ranged)
+    subst (λ o. puts adds reads s.sink s.position o after.sink after.position) (sym t.marked_is) (h m t.value t.code_is t.form t.payload t.fits_it t.ranged)
 
 joined : (e c : Bool) (short long n : ℕ) (bs : List ℕ) → pick e (if c then short ∷ n ∷ [] else long ∷ to_be_bytes w32 n) (to_be_bytes w32 n) ++ bs ≡ pick e (if c then short ∷ n ∷ bs else long ∷ (to_be_bytes w32 n ++ bs)) (to_be_bytes w32 n ++ bs)
 joined true c short long n bs = refl
@@ -188,7 +188,7 @@ pub text_bytes : {K : Type 0} (adds : Adding K) → Chains adds → (a m b : K) 
 text_bytes {K} adds chains a m b e short long n bs i h g = subst (λ w. adds a w b) (ap (λ w. pick e (if is_short w then short ∷ w ∷ [] else long ∷ to_be_bytes w32 w) (to_be_bytes w32 w) ++ bs) i ∙ joined e (is_short (length bs)) short long (length bs) bs) (chains a m b (pick e (if is_short n then short ∷ n ∷ [] else long ∷ to_be_bytes w32 n) (to_be_bytes w32 n)) bs h g)
 
 -- A scalar whose bytes are given.
-pub exact_gave : {K : Type 0} (adds : Adding K) (reads : Promises K) → Chains adds → (a m b : K) (p q : Place) (x : Scalar) (bs : List ℕ) (c : ℕ) (e : Bool) → scalar_code x ≡ c → scalar_form x ≡ c ∷ bs → scalar_payload x ≡ bs → scalar_fits x ≡ true → IsRangedScalar x →
+pub exact_gave : {K : Type 0} (adds : Adding K) (reads : Promises K) → Chains adds → (a m b : K) (p q : Position) (x : Scalar) (bs : List ℕ) (c : ℕ) (e : Bool) → scalar_code x ≡ c → scalar_form x ≡ c ∷ bs → scalar_payload x ≡ bs → scalar_fits x ≡ true → IsRangedScalar x →
     e ≡ is_element p → Admits p c q → Led adds p c a m → adds m (pick e (c ∷ bs) bs) b → Gave adds reads a p (scalar x) b q
 exact_gave {K} adds reads chains a m b p q x bs c e k f y w r i d l h =
     gave_at adds reads chains a m b p q (scalar x) c (ap Some k) d l
@@ -196,18 +196,18 @@ exact_gave {K} adds reads chains a m b p q x bs c e k f y w r i d l h =
     (λ v. w) refl refl (given reads.ranges r)
 
 -- A decimal or a uuid.
-pub marked_gave : {K : Type 0} (adds : Adding K) (reads : Promises K) → (a b : K) (p q : Place) (s : ScalarMarker) (bs : List ℕ) (c : ℕ) → IsExact s bs c → AreBytes bs →
+pub marked_gave : {K : Type 0} (adds : Adding K) (reads : Promises K) → (a b : K) (p q : Position) (s : ScalarMarker) (bs : List ℕ) (c : ℕ) → IsExact s bs c → AreBytes bs →
     ((x : Scalar) → scalar_code x ≡ c → scalar_form x ≡ c ∷ bs → scalar_payload x ≡ bs → scalar_fits x ≡ true → IsRangedScalar x → Gave adds reads a p (scalar x) b q) → puts adds reads a p (marked_bytes s bs) b q
 marked_gave {K} adds reads a b p q s bs c e r f = subst (λ o. puts adds reads a p o b q) (sym e.marked) (f (exact_scalar s bs) e.code_is e.form e.payload e.fits_it (e.ranged r))
 
--- The place is one of an ordinary value.
-abbrev pub LazyPlace : Place → Type 0
-LazyPlace p = (p ≡ places.Root) ⊎ (p ≡ places.Inside)
+-- The position is one of an ordinary value.
+abbrev pub LazyPosition : Position → Type 0
+LazyPosition p = (p ≡ positions.Root) ⊎ (p ≡ positions.Inside)
 
-lazy_at : {K : Type 0} (adds : Adding K) (reads : Promises K) → Bounds adds reads → (a b : K) (p q : Place) (bs : List ℕ) → LazyPlace p → is_frame bs ≡ true → AreBytes bs → adds a bs b → Gave adds reads a p (lazy bs) b q
-lazy_at {K} adds reads bounds a b p q bs (inl e) f r h = subst (λ w. Gave adds reads a w (lazy bs) b q) (sym e) (record { within_limits_it = λ v. le_true (length bs) 18446744073709551615 (bounds a b bs h v); uniform_arrays_it = refl; fits_it = refl; ranged = given reads.ranges (r, passes_frame bs f); took = tt; out = h })
-lazy_at {K} adds reads bounds a b p q bs (inr e) f r h = subst (λ w. Gave adds reads a w (lazy bs) b q) (sym e) (record { within_limits_it = λ v. le_true (length bs) 18446744073709551615 (bounds a b bs h v); uniform_arrays_it = refl; fits_it = refl; ranged = given reads.ranges (r, passes_frame bs f); took = tt; out = h })
+lazy_at : {K : Type 0} (adds : Adding K) (reads : Promises K) → Bounds adds reads → (a b : K) (p q : Position) (bs : List ℕ) → LazyPosition p → is_encoded_value bs ≡ true → AreBytes bs → adds a bs b → Gave adds reads a p (lazy bs) b q
+lazy_at {K} adds reads bounds a b p q bs (inl e) f r h = subst (λ w. Gave adds reads a w (lazy bs) b q) (sym e) (record { within_limits_it = λ v. le_true (length bs) 18446744073709551615 (bounds a b bs h v); uniform_arrays_it = refl; fits_it = refl; ranged = given reads.ranges (r, passes_encoded_value bs f); took = tt; out = h })
+lazy_at {K} adds reads bounds a b p q bs (inr e) f r h = subst (λ w. Gave adds reads a w (lazy bs) b q) (sym e) (record { within_limits_it = λ v. le_true (length bs) 18446744073709551615 (bounds a b bs h v); uniform_arrays_it = refl; fits_it = refl; ranged = given reads.ranges (r, passes_encoded_value bs f); took = tt; out = h })
 
 -- A value that is encoded already.
-pub lazy_gave : {K : Type 0} (adds : Adding K) (reads : Promises K) → Bounds adds reads → (a b : K) (p q : Place) (bs : List ℕ) → LazyPlace p → is_frame bs ≡ true → AreBytes bs → adds a bs b → puts adds reads a p (with_marker marker.Lazy (Some (scalar (binary bs)))) b q
+pub lazy_gave : {K : Type 0} (adds : Adding K) (reads : Promises K) → Bounds adds reads → (a b : K) (p q : Position) (bs : List ℕ) → LazyPosition p → is_encoded_value bs ≡ true → AreBytes bs → adds a bs b → puts adds reads a p (with_marker marker.Lazy (Some (scalar (binary bs)))) b q
 lazy_gave {K} adds reads bounds a b p q bs l f r h = subst (λ c. puts adds reads a p (if c then Some (lazy bs) else None) b q) (sym f) (lazy_at adds reads bounds a b p q bs l f r h)

@@ -3,20 +3,20 @@ use Rattle.std.proofs.Common.{◌≡◌, ◌∙◌, ◌&&◌, Bool, true, false,
 use Rattle.std.proofs.lemmas.Bool.{and_parts}
 use Rattle.amqp_data.specs.declared.error.Error.{Error}
 use Rattle.amqp_data.specs.declared.error.Error.TheVariants.{OutOfMemory, TooLong, InvalidValue, InvalidFormatCode, UnexpectedEof, Io, Message}
-use Rattle.amqp_frame.specs.Frame.{IsFrame}
+use Rattle.amqp_frame.specs.EncodedValue.{IsEncodedValue}
 use Rattle.amqp_ser.specs.Encoding.{encoding}
 use Rattle.amqp_ser.specs.Ranged.{IsRanged}
 use Rattle.amqp_ser.specs.Tree.{Tree, is_transparent}
 use Rattle.amqp_ser.specs.Writable.{within_limits, uniform_arrays, placed, writable}
-use Rattle.amqp_ser.proofs.EncodedValue.{encoding_frame}
+use Rattle.amqp_ser.proofs.EncodedValue.{encoding_is_encoded}
 use Rattle.amqp_wire.specs.LazyOf.{IsLazyOf}
 
-go : (t : Tree) → IsRanged t → writable t ≡ true → ¬ IsFrame (encoding t) → (b : Bool) → is_transparent t ≡ b → b ≡ true
+go : (t : Tree) → IsRanged t → writable t ≡ true → ¬ IsEncodedValue (encoding t) → (b : Bool) → is_transparent t ≡ b → b ≡ true
 go t r w n true e = refl
-go t r w n false e = absurd (n (encoding_frame t r w e))
+go t r w n false e = absurd (n (encoding_is_encoded t r w e))
 
 -- If its bytes are not one encoded value, its root is transparent.
-pub root_transparent : (t : Tree) → IsRanged t → writable t ≡ true → ¬ IsFrame (encoding t) → is_transparent t ≡ true
+pub root_transparent : (t : Tree) → IsRanged t → writable t ≡ true → ¬ IsEncodedValue (encoding t) → is_transparent t ≡ true
 root_transparent t r w n = go t r w n (is_transparent t) refl
 
 no_false : true ≡ false → ⊥

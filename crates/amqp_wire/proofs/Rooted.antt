@@ -16,32 +16,32 @@ use Rattle.amqp_wire.specs.declared.appender.Appender.{Appender}
 use Rattle.amqp_wire.specs.declared.counter.Counter.{Counter}
 use Rattle.amqp_wire.specs.declared.pass.GaveUp.{GaveUp}
 use Rattle.amqp_wire.specs.declared.pass.Pass.{Pass}
-use Rattle.amqp_wire.specs.declared.place.Place.{Place}
-use Rattle.amqp_wire.specs.declared.place.Place.TheVariants as places
+use Rattle.amqp_wire.specs.declared.position.Position.{Position}
+use Rattle.amqp_wire.specs.declared.position.Position.TheVariants as positions
 use Rattle.amqp_wire.proofs.FormLemmas.{cut_back}
-use Rattle.amqp_wire.proofs.PartSteps.{plain_puts, gives_extends}
+use Rattle.amqp_wire.proofs.PartSteps.{unmarked_puts, gives_extends}
 
 -- What the sink of each pass promises.
 abbrev pub appending : Promises Appender
-appending = record { ranges = false; sound = λ a. a.spoiled ≡ false }
+appending = record { ranges = false; sound = λ a. a.poisoned ≡ false }
 
 abbrev pub counting : Promises Counter
 counting = record { ranges = true; sound = λ _. Unit {0} }
 
-written_puts : (a b : Appender) (q : Place) (o : Option Tree) → b.spoiled ≡ false → puts Appends appending a places.Root o b q → IsWritten o a.out.items b.out.items
+written_puts : (a b : Appender) (q : Position) (o : Option Tree) → b.poisoned ≡ false → puts Appends appending a positions.Root o b q → IsWritten o a.out.items b.out.items
 written_puts a b q None z h = absurd h
 written_puts a b q (Some t) z h = (both (within_limits t) (uniform_arrays t && placed t) (h.within_limits_it z) (both (uniform_arrays t) (placed t) h.uniform_arrays_it h.fits_it), h.out.out z)
 
-pub root_written : (s : Pass Appender) (o : Option Tree) (res : Result (Unit {0}) GaveUp) (u : Unit {0}) (after : Pass Appender) → res ≡ Ok u → s.marker ≡ Some marker.Other → s.place ≡ places.Root → after.sink.spoiled ≡ false → Gives Appends appending Longer s o res after → IsWritten o s.sink.out.items after.sink.out.items
-root_written s o res u after e m p z h = written_puts s.sink after.sink after.place o z (subst (λ w. puts Appends appending s.sink w o after.sink after.place) p (plain_puts Appends appending Longer s o after m (subst (λ r. Gives Appends appending Longer s o r after) e h)))
+pub root_written : (s : Pass Appender) (o : Option Tree) (res : Result (Unit {0}) GaveUp) (u : Unit {0}) (after : Pass Appender) → res ≡ Ok u → s.marker ≡ Some marker.Other → s.position ≡ positions.Root → after.sink.poisoned ≡ false → Gives Appends appending Longer s o res after → IsWritten o s.sink.out.items after.sink.out.items
+root_written s o res u after e m p z h = written_puts s.sink after.sink after.position o z (subst (λ w. puts Appends appending s.sink w o after.sink after.position) p (unmarked_puts Appends appending Longer s o after m (subst (λ r. Gives Appends appending Longer s o r after) e h)))
 
-ranged_puts : (a b : Counter) (p q : Place) (o : Option Tree) → puts Counts counting a p o b q → IsInRange o
+ranged_puts : (a b : Counter) (p q : Position) (o : Option Tree) → puts Counts counting a p o b q → IsInRange o
 ranged_puts a b p q None h = tt
 ranged_puts a b p q (Some t) h = h.ranged
 
 -- A value that was counted is in range.
 pub root_ranged : (s : Pass Counter) (o : Option Tree) (res : Result (Unit {0}) GaveUp) (u : Unit {0}) (after : Pass Counter) → res ≡ Ok u → s.marker ≡ Some marker.Other → Gives Counts counting Any s o res after → IsInRange o
-root_ranged s o res u after e m h = ranged_puts s.sink after.sink s.place after.place o (plain_puts Counts counting Any s o after m (subst (λ r. Gives Counts counting Any s o r after) e h))
+root_ranged s o res u after e m h = ranged_puts s.sink after.sink s.position after.position o (unmarked_puts Counts counting Any s o after m (subst (λ r. Gives Counts counting Any s o r after) e h))
 
 -- What a pass has appended, after an error too, is after what the buffer had.
 pub root_longer : (s : Pass Appender) (o : Option Tree) (res : Result (Unit {0}) GaveUp) (after : Pass Appender) → Gives Appends appending Longer s o res after → Extends s.sink.out.items after.sink.out.items

@@ -5,14 +5,14 @@ use Rattle.amqp_ser.specs.Scalars.{scalar_form}
 use Rattle.amqp_ser.specs.declared.kind.CompoundKind.{CompoundKind}
 use Rattle.amqp_size.specs.declared.resolved_kind.ResolvedKind.{ResolvedKind}
 use Rattle.amqp_size.specs.declared.resolved_kind.ResolvedKind.TheVariants as resolved
-use Rattle.amqp_wire.specs.Places.{Led, is_element, bytes_at}
+use Rattle.amqp_wire.specs.Positions.{Led, is_element, bytes_at}
 use Rattle.amqp_wire.specs.Kept.{Kept}
 use Rattle.amqp_wire.specs.When.{Promises}
 use Rattle.amqp_wire.specs.Gives.{Adding, Opening, Extending, Marking, Gave, puts, marked, body, Added, InVariant, Gathers, Before, Holds, Alone, Class, HasAs}
 use Rattle.amqp_wire.specs.Gives as gives
 use Rattle.amqp_wire.specs.declared.pass.Pass.{Pass}
-use Rattle.amqp_wire.specs.declared.place.Place.{Place}
-use Rattle.amqp_wire.specs.declared.place.Place.TheVariants as places
+use Rattle.amqp_wire.specs.declared.position.Position.{Position}
+use Rattle.amqp_wire.specs.declared.position.Position.TheVariants as positions
 use Rattle.amqp_wire.specs.declared.sink.HeaderKind.{HeaderKind}
 use Rattle.amqp_wire.specs.declared.sink.HeaderKind.TheVariants as headers
 use Rattle.amqp_wire.specs.declared.sink.Opened.{Opened}
@@ -27,12 +27,12 @@ pub record Laws {K : Type 0} (adds : Adding K) (reads : Promises K) (within : Op
   pub longer : (a b : K) (x : List ℕ) → adds a x b → extends a b
   pub longer_within : (e : Bool) (k : HeaderKind) (o : Opened) (a b : K) (x : List ℕ) → within a e k o b x → extends a b
 
-led_extends : {K : Type 0} (adds : Adding K) (reads : Promises K) (within : Opening K) (extends : Extending K) → Laws adds reads within extends → (p : Place) (c : ℕ) (a b : K) → Led adds p c a b → extends a b
-led_extends adds reads within extends L places.Root c a b h = subst (λ w. extends a w) (sym h) (L.stays a)
-led_extends adds reads within extends L places.Inside c a b h = subst (λ w. extends a w) (sym h) (L.stays a)
-led_extends adds reads within extends L places.Descriptor c a b h = subst (λ w. extends a w) (sym h) (L.stays a)
-led_extends adds reads within extends L places.First c a b h = L.longer a b (c ∷ []) h
-led_extends adds reads within extends L (places.Element d) c a b h = subst (λ w. extends a w) (sym h) (L.stays a)
+led_extends : {K : Type 0} (adds : Adding K) (reads : Promises K) (within : Opening K) (extends : Extending K) → Laws adds reads within extends → (p : Position) (c : ℕ) (a b : K) → Led adds p c a b → extends a b
+led_extends adds reads within extends L positions.Root c a b h = subst (λ w. extends a w) (sym h) (L.stays a)
+led_extends adds reads within extends L positions.Inside c a b h = subst (λ w. extends a w) (sym h) (L.stays a)
+led_extends adds reads within extends L positions.Descriptor c a b h = subst (λ w. extends a w) (sym h) (L.stays a)
+led_extends adds reads within extends L positions.First c a b h = L.longer a b (c ∷ []) h
+led_extends adds reads within extends L (positions.Element d) c a b h = subst (λ w. extends a w) (sym h) (L.stays a)
 
 added_extends : {K : Type 0} (adds : Adding K) (reads : Promises K) (within : Opening K) (extends : Extending K) → Laws adds reads within extends → (k : ResolvedKind) (e : Bool) (c : Kept) (a now : K) (bs : List ℕ) → Added adds within k e c a now bs → extends a now
 added_extends adds reads within extends L resolved.List e c a now bs h = L.longer_within e headers.List c.opened a now bs h
@@ -59,7 +59,7 @@ pub added_same : {K : Type 0} (adds : Adding K) (reads : Promises K) (within : O
 added_same adds reads within extends L k e c a now next bs h n = subst (λ w. Added adds within k e c a next w) (append-nil bs) (added_on adds reads within extends L k e c a now next bs [] h n)
 
 pub gathers_extends : {K : Type 0} (adds : Adding K) (reads : Promises K) (within : Opening K) (extends : Extending K) → Laws adds reads within extends → (k : ResolvedKind) (start : Pass K) (now : K) (c : Kept) (n : ℕ) (ps : List (Option Tree)) → Gathers adds reads within k start now c n ps → extends start.sink now
-gathers_extends {K} adds reads within extends L k start now c n ps g = L.on start.sink g.first now (led_extends adds reads within extends L start.place (gives.code_of k) start.sink g.first g.led) (added_extends adds reads within extends L k (is_element start.place) c g.first now (body k g.ts) g.out)
+gathers_extends {K} adds reads within extends L k start now c n ps g = L.on start.sink g.first now (led_extends adds reads within extends L start.position (gives.code_of k) start.sink g.first g.led) (added_extends adds reads within extends L k (is_element start.position) c g.first now (body k g.ts) g.out)
 
 gathers_same : {K : Type 0} (adds : Adding K) (reads : Promises K) (within : Opening K) (extends : Extending K) → Laws adds reads within extends → (k : ResolvedKind) (start : Pass K) (now next : K) (c : Kept) (n : ℕ) (ps : List (Option Tree)) → Gathers adds reads within k start now c n ps → adds now [] next → Gathers adds reads within k start next c n ps
 gathers_same {K} adds reads within extends L k start now next c n ps g s = record {
@@ -69,7 +69,7 @@ gathers_same {K} adds reads within extends L k start now next c n ps g s = recor
   stands = g.stands;
   index = g.index;
   inner_marker = g.inner_marker;
-  inner_place = g.inner_place;
+  inner_position = g.inner_position;
   counted = g.counted;
   within_limits_parts = λ v. g.within_limits_parts (L.keeps now next (L.longer now next [] s) v);
   uniform_arrays_parts = g.uniform_arrays_parts;
@@ -77,10 +77,10 @@ gathers_same {K} adds reads within extends L k start now next c n ps g s = recor
   ranged_parts = g.ranged_parts;
   first = g.first;
   led = g.led;
-  out = added_same adds reads within extends L k (is_element start.place) c g.first now next (body k g.ts) g.out s;
+  out = added_same adds reads within extends L k (is_element start.position) c g.first now next (body k g.ts) g.out s;
 }
 
-puts_same : {K : Type 0} (adds : Adding K) (reads : Promises K) (within : Opening K) (extends : Extending K) → Laws adds reads within extends → (a now next : K) (p q : Place) (o : Option Tree) → puts adds reads a p o now q → adds now [] next → puts adds reads a p o next q
+puts_same : {K : Type 0} (adds : Adding K) (reads : Promises K) (within : Opening K) (extends : Extending K) → Laws adds reads within extends → (a now next : K) (p q : Position) (o : Option Tree) → puts adds reads a p o now q → adds now [] next → puts adds reads a p o next q
 puts_same {K} adds reads within extends L a now next p q None h s = h
 puts_same {K} adds reads within extends L a now next p q (Some t) h s = record {
   within_limits_it = λ v. h.within_limits_it (L.keeps now next (L.longer now next [] s) v);
@@ -92,7 +92,7 @@ puts_same {K} adds reads within extends L a now next p q (Some t) h s = record {
 }
 
 -- A tree that was added after nothing.
-pub puts_after : {K : Type 0} (adds : Adding K) (reads : Promises K) (within : Opening K) (extends : Extending K) → Laws adds reads within extends → (a b now : K) (p q : Place) (o : Option Tree) → adds a [] b → puts adds reads b p o now q → puts adds reads a p o now q
+pub puts_after : {K : Type 0} (adds : Adding K) (reads : Promises K) (within : Opening K) (extends : Extending K) → Laws adds reads within extends → (a b now : K) (p q : Position) (o : Option Tree) → adds a [] b → puts adds reads b p o now q → puts adds reads a p o now q
 puts_after {K} adds reads within extends L a b now p q None s h = h
 puts_after {K} adds reads within extends L a b now p q (Some t) s h = record {
   within_limits_it = h.within_limits_it;
@@ -103,18 +103,18 @@ puts_after {K} adds reads within extends L a b now p q (Some t) s h = record {
   out = L.chains a b now [] (bytes_at p t) s h.out;
 }
 
-pub puts_extends : {K : Type 0} (adds : Adding K) (reads : Promises K) (within : Opening K) (extends : Extending K) → Laws adds reads within extends → (a now : K) (p q : Place) (o : Option Tree) → puts adds reads a p o now q → extends a now
+pub puts_extends : {K : Type 0} (adds : Adding K) (reads : Promises K) (within : Opening K) (extends : Extending K) → Laws adds reads within extends → (a now : K) (p q : Position) (o : Option Tree) → puts adds reads a p o now q → extends a now
 puts_extends {K} adds reads within extends L a now p q None h = absurd h
 puts_extends {K} adds reads within extends L a now p q (Some t) h = L.longer a now (bytes_at p t) h.out
 
 alone_extends : {K : Type 0} (adds : Adding K) (reads : Promises K) (within : Opening K) (extends : Extending K) → Laws adds reads within extends → (start : Pass K) (now : K) (c : Kept) (ps : List (Option Tree)) → Alone adds reads start now c ps → extends start.sink now
 alone_extends {K} adds reads within extends L start now c [] h = L.longer start.sink now [] h.1.0
-alone_extends {K} adds reads within extends L start now c (p ∷ []) h = puts_extends adds reads within extends L start.sink now start.place c.after (marked start.marker p) h.1
+alone_extends {K} adds reads within extends L start now c (p ∷ []) h = puts_extends adds reads within extends L start.sink now start.position c.after (marked start.marker p) h.1
 alone_extends {K} adds reads within extends L start now c (p ∷ (q ∷ ps)) h = absurd h
 
 alone_same : {K : Type 0} (adds : Adding K) (reads : Promises K) (within : Opening K) (extends : Extending K) → Laws adds reads within extends → (start : Pass K) (now next : K) (c : Kept) (ps : List (Option Tree)) → Alone adds reads start now c ps → adds now [] next → Alone adds reads start next c ps
 alone_same {K} adds reads within extends L start now next c [] h s = (h.0, (L.chains start.sink now next [] [] h.1.0 s, h.1.1))
-alone_same {K} adds reads within extends L start now next c (p ∷ []) h s = (h.0, puts_same adds reads within extends L start.sink now next start.place c.after (marked start.marker p) h.1 s)
+alone_same {K} adds reads within extends L start now next c (p ∷ []) h s = (h.0, puts_same adds reads within extends L start.sink now next start.position c.after (marked start.marker p) h.1 s)
 alone_same {K} adds reads within extends L start now next c (p ∷ (q ∷ ps)) h s = absurd h
 
 -- A compound has only more bytes than the pass had when it was opened.

@@ -49,24 +49,24 @@ length_append : (a b : List ℕ) → length (a ++ b) ≡ length a + length b
 length_append [] b = sym (zero-add (length b))
 length_append (x ∷ a) b = ap suc (length_append a b) ∙ sym (suc-add (length a) (length b))
 
--- The bytes of the first buffer, and then others. A buffer that is spoiled stays so.
+-- The bytes of the first buffer, and then others. A buffer that is poisoned stays so.
 abbrev pub Longer : Appender → Appender → Type 0
-Longer a b = Extends a.out.items b.out.items × (b.spoiled ≡ false → a.spoiled ≡ false)
+Longer a b = Extends a.out.items b.out.items × (b.poisoned ≡ false → a.poisoned ≡ false)
 
--- The bytes were appended, unless the buffer is spoiled, and a number can count all.
+-- The bytes were appended, unless the buffer is poisoned, and a number can count all.
 pub record Appends (a : Appender) (bs : List ℕ) (b : Appender) : Type 0 where
   pub longer : Longer a b
-  pub out : b.spoiled ≡ false → b.out.items ≡ a.out.items ++ bs
+  pub out : b.poisoned ≡ false → b.out.items ≡ a.out.items ++ bs
   pub few : length b.out.items ≤ 18446744073709551615
 
 -- A compound was opened with its hint, and these bytes were appended since.
 pub record Inside (a : Appender) (e : Bool) (k : HeaderKind) (o : Opened) (b : Appender) (body : List ℕ) : Type 0 where
   pub longer : Longer a b
-  pub out : b.spoiled ≡ false → b.out.items ≡ (a.out.items ++ header e k o.count o.at) ++ body
-  pub start : b.spoiled ≡ false → o.start ≡ length (a.out.items ++ header e k o.count o.at)
+  pub out : b.poisoned ≡ false → b.out.items ≡ (a.out.items ++ header e k o.count o.at) ++ body
+  pub start : b.poisoned ≡ false → o.start ≡ length (a.out.items ++ header e k o.count o.at)
 
 abbrev pub OutMarks : Appender → Mark → Type 0
-OutMarks a m = (m.len ≡ length a.out.items) × (m.spoiled ≡ a.spoiled)
+OutMarks a m = (m.len ≡ length a.out.items) × (m.poisoned ≡ a.poisoned)
 
 pub longer_self : (a : Appender) → Longer a a
 longer_self a = (([], sym (append_nil a.out.items)), λ s. s)
@@ -74,7 +74,7 @@ longer_self a = (([], sym (append_nil a.out.items)), λ s. s)
 pub longer_on : (a b c : Appender) → Longer a b → Longer b c → Longer a c
 longer_on a b c h k = ((h.0.0 ++ k.0.0, k.0.1 ∙ (ap (λ l. l ++ k.0.0) h.0.1 ∙ append_assoc a.out.items h.0.0 k.0.0)), λ s. h.1 (k.1 s))
 
-pub longer_keeps : (a b : Appender) → Longer a b → b.spoiled ≡ false → a.spoiled ≡ false
+pub longer_keeps : (a b : Appender) → Longer a b → b.poisoned ≡ false → a.poisoned ≡ false
 longer_keeps a b h s = h.1 s
 
 pub longer_adds : (a b : Appender) (x : List ℕ) → Appends a x b → Longer a b
@@ -97,7 +97,7 @@ goes_inside e k o a b c x y h n = record {
   start = λ s. h.start (n.longer.1 s);
 }
 
-pub appends_bounded : (a b : Appender) (x : List ℕ) → Appends a x b → b.spoiled ≡ false → length x ≤ 18446744073709551615
+pub appends_bounded : (a b : Appender) (x : List ℕ) → Appends a x b → b.poisoned ≡ false → length x ≤ 18446744073709551615
 appends_bounded a b x h s = le_trans (subst (λ n. length x ≤ n) (sym (ap length (h.out s) ∙ length_append a.out.items x)) (le-add_left (length x) (length a.out.items))) h.few
 
 -- The number grew by this much, and is a number of 64 bits.

@@ -13,14 +13,14 @@ use Rattle.amqp_ser.specs.declared.marker.Marker.{Marker}
 use Rattle.amqp_ser.specs.declared.marker.Marker.TheVariants as marker
 use Rattle.amqp_size.specs.declared.resolved_kind.ResolvedKind.{ResolvedKind}
 use Rattle.amqp_size.specs.declared.resolved_kind.ResolvedKind.TheVariants as resolved
-use Rattle.amqp_wire.specs.Places.{is_element, Admits, Led, bytes_at, fits_place, Took}
+use Rattle.amqp_wire.specs.Positions.{is_element, Admits, Led, bytes_at, fits_position, Took}
 use Rattle.amqp_wire.specs.declared.pass.GaveUp.{GaveUp}
 use Rattle.amqp_wire.specs.declared.pass.Pass.{Pass}
 use Rattle.amqp_wire.specs.declared.pass_compound.PassCompound.{PassCompound}
 use Rattle.amqp_wire.specs.Kept.{Kept, kept}
 pub use Rattle.amqp_wire.specs.When.{Promises, When}
-use Rattle.amqp_wire.specs.declared.place.Place.{Place}
-use Rattle.amqp_wire.specs.declared.place.Place.TheVariants as places
+use Rattle.amqp_wire.specs.declared.position.Position.{Position}
+use Rattle.amqp_wire.specs.declared.position.Position.TheVariants as positions
 use Rattle.amqp_wire.specs.declared.sink.HeaderKind.{HeaderKind}
 use Rattle.amqp_wire.specs.declared.sink.HeaderKind.TheVariants as headers
 use Rattle.amqp_wire.specs.declared.sink.Opened.{Opened}
@@ -45,29 +45,29 @@ marked None o = None
 marked (Some m) o = with_marker m o
 
 -- A writable tree was added. Its ranges are promised by a sink that reads all values.
-pub record Gave {K : Type 0} (adds : Adding K) (reads : Promises K) (a : K) (p : Place) (t : Tree) (b : K) (q : Place) : Type 0 where
+pub record Gave {K : Type 0} (adds : Adding K) (reads : Promises K) (a : K) (p : Position) (t : Tree) (b : K) (q : Position) : Type 0 where
   pub within_limits_it : reads.sound b → within_limits t ≡ true
   pub uniform_arrays_it : uniform_arrays t ≡ true
-  pub fits_it : fits_place p t ≡ true
+  pub fits_it : fits_position p t ≡ true
   pub ranged : When reads.ranges (IsRanged t)
   pub took : Took p t q
   pub out : adds a (bytes_at p t) b
 
-abbrev pub puts : {K : Type 0} → Adding K → Promises K → K → Place → Option Tree → K → Place → Type 0
+abbrev pub puts : {K : Type 0} → Adding K → Promises K → K → Position → Option Tree → K → Position → Type 0
 puts adds reads a p None b q = ⊥
 puts adds reads a p (Some t) b q = Gave adds reads a p t b q
 
 -- The tree was added. After an error the sink has other bytes after those that it had.
 abbrev pub Gives : {K : Type 0} → Adding K → Promises K → Extending K → Pass K → Option Tree → Result (Unit {0}) GaveUp → Pass K → Type 0
-Gives adds reads extends s o (Ok u) after = puts adds reads s.sink s.place (marked s.marker o) after.sink after.place
+Gives adds reads extends s o (Ok u) after = puts adds reads s.sink s.position (marked s.marker o) after.sink after.position
 Gives adds reads extends s o (Err e) after = extends s.sink after.sink
 
-none_put : {K : Type 0} (adds : Adding K) (reads : Promises K) (a : K) (p : Place) (m : Option Marker) (b : K) (q : Place) → puts adds reads a p (marked m None) b q → ⊥
+none_put : {K : Type 0} (adds : Adding K) (reads : Promises K) (a : K) (p : Position) (m : Option Marker) (b : K) (q : Position) → puts adds reads a p (marked m None) b q → ⊥
 none_put adds reads a p None b q h = h
 none_put adds reads a p (Some m) b q h = h
 
 pub nothing_of_none : {K : Type 0} (adds : Adding K) (reads : Promises K) (extends : Extending K) (s : Pass K) (u : Unit {0}) (after : Pass K) → Gives adds reads extends s None (Ok u) after → ⊥
-nothing_of_none adds reads extends s u after h = none_put adds reads s.sink s.place s.marker after.sink after.place h
+nothing_of_none adds reads extends s u after h = none_put adds reads s.sink s.position s.marker after.sink after.position h
 
 -- The kind and the marker of what a compound is encoded as.
 abbrev pub kind_of : ResolvedKind → CompoundKind
@@ -122,36 +122,36 @@ HasHeader resolved.Transparent = ⊥
 HasHeader resolved.Single = ⊥
 HasHeader resolved.Refused = ⊥
 
--- The place of a compound, which is kept for its end. A transparent vector is only at the root.
-abbrev pub Stands : ResolvedKind → Place → Place → Type 0
+-- The position of a compound, which is kept for its end. A transparent vector is only at the root.
+abbrev pub Stands : ResolvedKind → Position → Position → Type 0
 Stands resolved.List p q = Admits p 0xd0 q
 Stands resolved.Map p q = Admits p 0xd1 q
 Stands (resolved.Variant i) p q = Admits p 0xd1 q
 Stands (resolved.NewtypeVariant i) p q = Admits p 0xd1 q
 Stands resolved.Array p q = Admits p 0xf0 q
-Stands resolved.Transparent p q = p ≡ places.Root
+Stands resolved.Transparent p q = p ≡ positions.Root
 Stands resolved.Single p q = ⊥
 Stands resolved.Refused p q = ⊥
 
-abbrev pub element_at : Option ℕ → Place
-element_at None = places.First
-element_at (Some c) = places.Element c
+abbrev pub element_at : Option ℕ → Position
+element_at None = positions.First
+element_at (Some c) = positions.Element c
 
--- The place of the next element of an array.
-abbrev pub next_element : Trees → Place
-next_element no_trees = places.First
+-- The position of the next element of an array.
+abbrev pub next_element : Trees → Position
+next_element no_trees = positions.First
 next_element (more t ts) = element_at (constructor t)
 
--- The place of the next part.
-abbrev pub inner : ResolvedKind → Trees → Place
-inner resolved.List ts = places.Inside
-inner resolved.Map ts = places.Inside
-inner (resolved.Variant i) ts = places.Inside
-inner (resolved.NewtypeVariant i) ts = places.Inside
+-- The position of the next part.
+abbrev pub inner : ResolvedKind → Trees → Position
+inner resolved.List ts = positions.Inside
+inner resolved.Map ts = positions.Inside
+inner (resolved.Variant i) ts = positions.Inside
+inner (resolved.NewtypeVariant i) ts = positions.Inside
 inner resolved.Array ts = next_element ts
-inner resolved.Transparent ts = places.Root
-inner resolved.Single ts = places.Inside
-inner resolved.Refused ts = places.Inside
+inner resolved.Transparent ts = positions.Root
+inner resolved.Single ts = positions.Inside
+inner resolved.Refused ts = positions.Inside
 
 -- The bytes of the parts.
 abbrev pub body : ResolvedKind → Trees → List ℕ
@@ -208,18 +208,18 @@ pub record Gathers {K : Type 0} (adds : Adding K) (reads : Promises K) (within :
   pub ts : Trees
   pub trees : all_trees ps ≡ Some ts
   pub marker_is : start.marker ≡ Some (marker_of k)
-  pub stands : Stands k start.place c.after
+  pub stands : Stands k start.position c.after
   pub index : IndexFits k
   pub inner_marker : c.marker ≡ Some marker.Other
-  pub inner_place : c.place ≡ inner k ts
+  pub inner_position : c.position ≡ inner k ts
   pub counted : n ≡ count ts
   pub within_limits_parts : reads.sound now → within_limits_each ts ≡ true
   pub uniform_arrays_parts : uniform_arrays_each ts ≡ true
   pub parts_fit : PartsFit k ts
   pub ranged_parts : When reads.ranges (AreRanged ts)
   pub first : K
-  pub led : Led adds start.place (code_of k) start.sink first
-  pub out : Added adds within k (is_element start.place) c first now (body k ts)
+  pub led : Led adds start.position (code_of k) start.sink first
+  pub out : Added adds within k (is_element start.position) c first now (body k ts)
 
 -- The sink before the last part, which a map returns to.
 pub record Before {K : Type 0} (adds : Adding K) (reads : Promises K) (within : Opening K) (extends : Extending K) (marks : Marking K) (k : ResolvedKind) (start : Pass K) (now : K) (c : Kept) (qs : List (Option Tree)) : Type 0 where
@@ -238,8 +238,8 @@ pub record Holds {K : Type 0} (adds : Adding K) (reads : Promises K) (within : O
 
 -- The one part of a single compound.
 abbrev pub Alone : {K : Type 0} → Adding K → Promises K → Pass K → K → Kept → List (Option Tree) → Type 0
-Alone adds reads start now c [] = (c.count ≡ 0) × (adds start.sink [] now × ((c.marker ≡ start.marker) × (c.place ≡ start.place)))
-Alone adds reads start now c (p ∷ []) = (c.count ≡ 1) × puts adds reads start.sink start.place (marked start.marker p) now c.after
+Alone adds reads start now c [] = (c.count ≡ 0) × (adds start.sink [] now × ((c.marker ≡ start.marker) × (c.position ≡ start.position)))
+Alone adds reads start now c (p ∷ []) = (c.count ≡ 1) × puts adds reads start.sink start.position (marked start.marker p) now c.after
 Alone adds reads start now c (p ∷ (q ∷ ps)) = ⊥
 
 -- What is said of a compound, by its kind.
@@ -269,17 +269,17 @@ HasIn adds reads within extends marks k start kind now c ps = HasAs adds reads w
 abbrev pub Has : {K : Type 0} → Adding K → Promises K → Opening K → Extending K → Marking K → Pass K → CompoundKind → Pass K → PassCompound → List (Option Tree) → Type 0
 Has adds reads within extends marks start kind now c ps = HasIn adds reads within extends marks c.kind start kind now.sink (kept c) ps
 
--- The next part has its place and its marker, and the compound the position before it.
+-- The next part has its position and its marker, and the compound the mark before it.
 abbrev pub Awaits : {K : Type 0} → Adding K → Promises K → Opening K → Extending K → Marking K → Pass K → CompoundKind → Pass K → PassCompound → List (Option Tree) → Type 0
-Awaits adds reads within extends marks start kind now c ps = Has adds reads within extends marks start kind now c ps × ((now.marker ≡ c.marker) × ((now.place ≡ c.place) × marks now.sink c.mark))
+Awaits adds reads within extends marks start kind now c ps = Has adds reads within extends marks start kind now c ps × ((now.marker ≡ c.marker) × ((now.position ≡ c.position) × marks now.sink c.mark))
 
--- The format code of described values was added, and the compound has the position before it.
+-- The format code of described values was added, and the compound has the mark before it.
 pub record DescribedFrom {K : Type 0} (adds : Adding K) (reads : Promises K) (within : Opening K) (extends : Extending K) (marks : Marking K) (k : ResolvedKind) (start now : Pass K) (c : Kept) (mark : Mark) : Type 0 where
   pub old : K
   pub at : marks old mark
   pub since : extends old now.sink
   pub has : HasIn adds reads within extends marks k start kinds.Single old c []
-  pub place : now.place ≡ places.Descriptor
+  pub position : now.position ≡ positions.Descriptor
   pub marker_is : (now.marker ≡ None) ⊎ ((now.marker ≡ Some marker.Other) × adds old (0x00 ∷ []) now.sink)
 
 abbrev pub AwaitsDescriptor : {K : Type 0} → Adding K → Promises K → Opening K → Extending K → Marking K → Pass K → Pass K → PassCompound → Type 0

@@ -7,7 +7,7 @@ pub mod Strict
 -- Definitions that only private clauses use: what a pass that may give up permits, and the search
 -- for arrays without elements.
 pub mod When
-pub mod Places
+pub mod Positions
 pub mod Kept
 pub mod Forms
 pub mod Gives

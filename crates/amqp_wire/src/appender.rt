@@ -1,7 +1,7 @@
 //! A sink that appends bytes to a buffer whose capacity is allocated in advance.
 //!
-//! If the capacity or a hint does not fit, the buffer is spoiled until the sink returns to a mark.
-//! A spoiled buffer accepts the same values as before, so both passes refuse at the same calls.
+//! If the capacity or a hint does not fit, the buffer is poisoned until the sink returns to a mark.
+//! A poisoned buffer accepts the same values as before, so both passes refuse at the same calls.
 
 ghost use Rattle.std.specs.Prelude.{◌≡◌, ◌≤◌, ◌++◌, ◌∷◌, true, false, length};
 
@@ -19,7 +19,7 @@ pub struct Appender {
     /// The buffer.
     pub out: Vec<u8>,
     /// Whether bytes are missing, since the capacity or a hint did not fit.
-    pub spoiled: bool,
+    pub poisoned: bool,
 }
 
 impl Appender {
@@ -30,12 +30,12 @@ impl Appender {
     #[inline(always)]
     pub fn new(hints: Hints, out: Vec<u8>) -> Appender
         ensures out { result.out ≡ out }
-        ensures spoiled { result.spoiled ≡ false }
+        ensures poisoned { result.poisoned ≡ false }
     {
         Appender {
             hints,
             out,
-            spoiled: false,
+            poisoned: false,
         }
     }
 
@@ -45,7 +45,7 @@ impl Appender {
         ensures { Appends self.old bytes.now self.new }
     {
         if bytes.len() > self.out.capacity() - self.out.len() {
-            self.spoiled = true;
+            self.poisoned = true;
             return;
         }
         for byte in bytes {
@@ -63,7 +63,7 @@ impl Appender {
         }
         match long_header(element, kind, len, count) {
             Some(bytes) => self.put(&bytes.bytes[..bytes.len]),
-            None => self.spoiled = true,
+            None => self.poisoned = true,
         }
     }
 
@@ -96,7 +96,7 @@ impl Sink for Appender {
 
     ghost marks = { OutMarks };
 
-    ghost reads = { record { ranges = false; sound = λ a. a.spoiled ≡ false } };
+    ghost reads = { record { ranges = false; sound = λ a. a.poisoned ≡ false } };
 
     ghost keeps = { longer_keeps };
 
@@ -126,13 +126,13 @@ impl Sink for Appender {
     #[inline(always)]
     fn bytes(&mut self, bytes: &[u8]) -> bool {
         if bytes.len() > self.out.capacity() - self.out.len() {
-            self.spoiled = true;
+            self.poisoned = true;
             return true;
         }
         match self.out.extend_from_slice(bytes) {
             Ok(()) => true,
             Err(_) => {
-                self.spoiled = true;
+                self.poisoned = true;
                 true
             }
         }
@@ -141,7 +141,7 @@ impl Sink for Appender {
     #[inline(always)]
     fn open(&mut self, element: bool, kind: HeaderKind) -> Opened {
         let Some(hint) = self.hints.next() else {
-            self.spoiled = true;
+            self.poisoned = true;
             return Opened {
                 start: self.out.len(),
                 at: 0,
@@ -156,13 +156,13 @@ impl Sink for Appender {
         }
     }
 
-    #[tactic(auto, using(crate::proofs::FormLemmas::closed_out, crate::proofs::FormLemmas::spoiled_out))]
+    #[tactic(auto, using(crate::proofs::FormLemmas::closed_out, crate::proofs::FormLemmas::poisoned_out))]
     #[inline(always)]
     fn close(&mut self, _element: bool, _kind: HeaderKind, opened: Opened, count: usize) -> bool {
         if self.fits_hint(opened, count) {
             return true;
         }
-        self.spoiled = true;
+        self.poisoned = true;
         true
     }
 
@@ -176,7 +176,7 @@ impl Sink for Appender {
         Mark {
             len: self.out.len(),
             hints: self.hints.taken(),
-            spoiled: self.spoiled,
+            poisoned: self.poisoned,
         }
     }
 
@@ -185,6 +185,6 @@ impl Sink for Appender {
     fn restore(&mut self, mark: Mark) {
         self.out.truncate(mark.len);
         self.hints.return_to(mark.hints);
-        self.spoiled = mark.spoiled;
+        self.poisoned = mark.poisoned;
     }
 }

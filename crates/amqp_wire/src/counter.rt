@@ -113,7 +113,7 @@ impl Sink for Counter {
         Mark {
             len: self.len,
             hints: self.hints.len(),
-            spoiled: false,
+            poisoned: false,
         }
     }
 

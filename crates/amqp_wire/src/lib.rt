@@ -28,7 +28,7 @@ mod pass_begin;
 mod pass_compound;
 mod pass_serializer;
 mod passes;
-mod place;
+mod position;
 mod put;
 mod scalar_forms;
 mod search;

@@ -8,12 +8,12 @@ ghost use Rattle.amqp_ser.specs.Ranged.{AreBytes, IsRangedScalar};
 ghost use Rattle.amqp_ser.specs.Scalars.{scalar_code, scalar_form, scalar_payload, sized};
 ghost use Rattle.amqp_ser.specs.Writable.{scalar_fits};
 ghost use Rattle.amqp_size.specs.MarkedBytes.{marked_bytes};
-ghost use Rattle.amqp_wire.specs.Places.{is_element, Admits, IsOrdinary, Led};
+ghost use Rattle.amqp_wire.specs.Positions.{is_element, Admits, IsOrdinary, Led};
 
-use crate::place::{Place, is_descriptor_code};
+use crate::position::{Position, is_descriptor_code};
 use crate::put::{put_exact, put_number, put_text};
 use crate::sink::{HeaderKind, Opened, Sink};
-use amqp_frame::is_frame;
+use amqp_frame::is_encoded_value;
 use amqp_ser::Marker;
 use amqp_size::{ScalarEncoding, ScalarMarker};
 
@@ -26,7 +26,7 @@ pub struct GaveUp;
 pub struct Pass<K> {
     /// What receives the bytes.
     pub sink: K,
-    pub(crate) place: Place,
+    pub(crate) position: Position,
     /// The pending marker; `None` if no value is accepted.
     pub(crate) marker: Option<Marker>,
     /// Whether the parts of a compound may be added whole. It is false after a value that was not
@@ -51,12 +51,12 @@ impl<K: Sink> Pass<K> {
     #[inline(always)]
     pub fn new(sink: K) -> Pass<K>
         ensures sink { result.sink ≡ sink }
-        ensures place { result.place ≡ Place.Root }
+        ensures position { result.position ≡ Position.Root }
         ensures marker { result.marker ≡ Some Marker.Other }
     {
         Pass {
             sink,
-            place: Place::Root,
+            position: Position::Root,
             marker: Some(Marker::Other),
             tries_parts: true,
         }
@@ -69,7 +69,7 @@ impl<K: Sink> Pass<K> {
     {
         let Pass {
             sink,
-            place: _,
+            position: _,
             marker: _,
             tries_parts: _,
         } = self;
@@ -81,19 +81,19 @@ impl<K: Sink> Pass<K> {
     #[inline(always)]
     pub(crate) fn admit(&mut self, code: u8) -> bool
         ensures grown { K.extends self.old.sink self.new.sink }
-        ensures admitted { result ≡ true → Admits self.old.place code self.new.place }
+        ensures admitted { result ≡ true → Admits self.old.position code self.new.position }
         ensures led { result ≡ true →
-            Led K.adds self.old.place code self.old.sink self.new.sink }
+            Led K.adds self.old.position code self.old.sink self.new.sink }
     {
-        match self.place {
-            Place::Root => true,
-            Place::Inside => true,
-            Place::Descriptor => is_descriptor_code(code),
-            Place::First => {
-                self.place = Place::Element(code);
+        match self.position {
+            Position::Root => true,
+            Position::Inside => true,
+            Position::Descriptor => is_descriptor_code(code),
+            Position::First => {
+                self.position = Position::Element(code);
                 self.sink.few(&[code])
             }
-            Place::Element(constructor) => constructor == code,
+            Position::Element(constructor) => constructor == code,
         }
     }
 
@@ -102,9 +102,9 @@ impl<K: Sink> Pass<K> {
     pub(crate) fn number(&mut self, in_array: ScalarEncoding, ordinary: ScalarEncoding) -> bool
         ensures grown { K.extends self.old.sink self.new.sink }
         ensures gave { result ≡ true → (x : Scalar) → HasForms in_array ordinary x →
-            Gave K.adds K.reads self.old.sink self.old.place (scalar x) self.new.sink self.new.place }
+            Gave K.adds K.reads self.old.sink self.old.position (scalar x) self.new.sink self.new.position }
     {
-        let element = self.place.is_element();
+        let element = self.position.is_element();
         if !self.admit(in_array.code) {
             return false;
         }
@@ -120,9 +120,9 @@ impl<K: Sink> Pass<K> {
             scalar_form x ≡ sized short long bytes.now →
             scalar_payload x ≡ to_be_bytes w32 (length bytes.now) ++ bytes.now →
             scalar_fits x ≡ fits (length bytes.now) → IsRangedScalar x →
-            Gave K.adds K.reads self.old.sink self.old.place (scalar x) self.new.sink self.new.place }
+            Gave K.adds K.reads self.old.sink self.old.position (scalar x) self.new.sink self.new.position }
     {
-        let element = self.place.is_element();
+        let element = self.position.is_element();
         if !self.admit(long) {
             return false;
         }
@@ -137,9 +137,9 @@ impl<K: Sink> Pass<K> {
         ensures gave { result ≡ true → (x : Scalar) → scalar_code x ≡ code →
             scalar_form x ≡ code ∷ bytes.now → scalar_payload x ≡ bytes.now →
             scalar_fits x ≡ true → IsRangedScalar x →
-            Gave K.adds K.reads self.old.sink self.old.place (scalar x) self.new.sink self.new.place }
+            Gave K.adds K.reads self.old.sink self.old.position (scalar x) self.new.sink self.new.position }
     {
-        let element = self.place.is_element();
+        let element = self.position.is_element();
         if !self.admit(code) {
             return false;
         }
@@ -151,8 +151,8 @@ impl<K: Sink> Pass<K> {
     #[inline(always)]
     pub(crate) fn marked(&mut self, marker: ScalarMarker, bytes: &[u8]) -> bool
         ensures grown { K.extends self.old.sink self.new.sink }
-        ensures gave { result ≡ true → puts K.adds K.reads self.old.sink self.old.place
-            (marked_bytes marker bytes.now) self.new.sink self.new.place }
+        ensures gave { result ≡ true → puts K.adds K.reads self.old.sink self.old.position
+            (marked_bytes marker bytes.now) self.new.sink self.new.position }
     {
         match marker.exact_code(bytes) {
             Some(code) => self.exact(code, bytes),
@@ -166,16 +166,16 @@ impl<K: Sink> Pass<K> {
     pub(crate) fn lazy(&mut self, bytes: &[u8]) -> bool
         ensures grown { K.extends self.old.sink self.new.sink }
         ensures gave { result ≡ true → AreBytes bytes.now →
-            puts K.adds K.reads self.old.sink self.old.place
+            puts K.adds K.reads self.old.sink self.old.position
             (with_marker Marker.Lazy (Some (scalar (binary bytes.now)))) self.new.sink
-            self.new.place }
+            self.new.position }
     {
-        if !is_frame(bytes) {
+        if !is_encoded_value(bytes) {
             return false;
         }
-        match self.place {
-            Place::Root => self.sink.bytes(bytes),
-            Place::Inside => self.sink.bytes(bytes),
+        match self.position {
+            Position::Root => self.sink.bytes(bytes),
+            Position::Inside => self.sink.bytes(bytes),
             _ => false,
         }
     }
@@ -185,12 +185,12 @@ impl<K: Sink> Pass<K> {
     #[inline(always)]
     pub(crate) fn takes_whole(&self) -> bool
         ensures marker { result ≡ true → self.now.marker ≡ Some Marker.Other }
-        ensures place { result ≡ true → IsOrdinary self.now.place }
+        ensures position { result ≡ true → IsOrdinary self.now.position }
     {
         match self.marker {
-            Some(Marker::Other) => match self.place {
-                Place::Root => true,
-                Place::Inside => self.tries_parts,
+            Some(Marker::Other) => match self.position {
+                Position::Root => true,
+                Position::Inside => self.tries_parts,
                 _ => false,
             },
             _ => false,
@@ -201,12 +201,12 @@ impl<K: Sink> Pass<K> {
     #[inline(always)]
     pub(crate) fn open_at(&mut self, code: u8, kind: HeaderKind) -> Option<Opened>
         ensures grown { K.extends self.old.sink self.new.sink }
-        ensures admitted { IfSome result (λ _. Admits self.old.place code self.new.place) }
+        ensures admitted { IfSome result (λ _. Admits self.old.position code self.new.position) }
         ensures opened { IfSome result (λ o. (m : K)
-            × (Led K.adds self.old.place code self.old.sink m
-            × K.within m (is_element self.old.place) kind o self.new.sink [])) }
+            × (Led K.adds self.old.position code self.old.sink m
+            × K.within m (is_element self.old.position) kind o self.new.sink [])) }
     {
-        let element = self.place.is_element();
+        let element = self.position.is_element();
         if !self.admit(code) {
             return None;
         }

@@ -9,7 +9,7 @@ ghost use Rattle.amqp_wire.specs.Gives.{HasHeader, header_of, code_of, inner};
 
 use crate::pass::Pass;
 use crate::pass_compound::{NO_HEADER, PassCompound};
-use crate::place::Place;
+use crate::position::Position;
 use crate::put::put_index;
 use crate::sink::{HeaderKind, Opened, Sink};
 use amqp_data::EncodingCodes;
@@ -58,14 +58,14 @@ fn constructor_of(kind: ResolvedKind) -> u8
     }
 }
 
-/// Returns the place of the first part.
+/// Returns the position of the first part.
 #[inline(always)]
-fn first_place(kind: ResolvedKind) -> Place
+fn first_position(kind: ResolvedKind) -> Position
     ensures { HasHeader kind → result ≡ inner kind no_trees }
 {
     match kind {
-        ResolvedKind::Array => Place::First,
-        _ => Place::Inside,
+        ResolvedKind::Array => Position::First,
+        _ => Position::Inside,
     }
 }
 
@@ -80,7 +80,7 @@ impl<K: Sink> Pass<K> {
             result [] }
     {
         self.sink.rest();
-        PassCompound::single(self.place, self.marker)
+        PassCompound::single(self.position, self.marker)
     }
 
     /// Opens a list, a map or an array.
@@ -92,7 +92,7 @@ impl<K: Sink> Pass<K> {
     {
         match self.open_at(constructor_of(kind), header_of(kind)) {
             Some(opened) => {
-                PassCompound::open(kind, NO_HEADER, opened, first_place(kind), self.place)
+                PassCompound::open(kind, NO_HEADER, opened, first_position(kind), self.position)
             }
             None => PassCompound::refused(),
         }
@@ -105,15 +105,15 @@ impl<K: Sink> Pass<K> {
         ensures { self.old.marker ≡ Some Marker.Transparent →
             Has K.adds K.reads K.within K.extends K.marks self.old CompoundKind.List self.new result [] }
     {
-        match self.place {
-            Place::Root => {
+        match self.position {
+            Position::Root => {
                 self.sink.rest();
                 PassCompound::open(
                     ResolvedKind::Transparent,
                     NO_HEADER,
                     NO_HEADER,
-                    Place::Root,
-                    Place::Root,
+                    Position::Root,
+                    Position::Root,
                 )
             }
             _ => PassCompound::refused(),
@@ -138,8 +138,8 @@ impl<K: Sink> Pass<K> {
             ResolvedKind::NewtypeVariant(index),
             outer,
             NO_HEADER,
-            Place::Inside,
-            self.place,
+            Position::Inside,
+            self.position,
         )
     }
 
@@ -162,8 +162,8 @@ impl<K: Sink> Pass<K> {
             ResolvedKind::Variant(index),
             outer,
             opened,
-            Place::Inside,
-            self.place,
+            Position::Inside,
+            self.position,
         )
     }
 
@@ -177,7 +177,7 @@ impl<K: Sink> Pass<K> {
         count: usize,
     ) -> bool
         ensures grown { K.extends self.old.sink self.new.sink }
-        ensures place { self.new.place ≡ self.old.place }
+        ensures position { self.new.position ≡ self.old.position }
         ensures put { (start mid : K) (index body : List ℕ) →
             K.within start element HeaderKind.Map outer mid index →
             K.within mid false HeaderKind.List opened self.old.sink body →

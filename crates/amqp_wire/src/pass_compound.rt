@@ -4,7 +4,7 @@ ghost use Rattle.std.specs.Prelude.{◌≡◌, Option, Some, None, true, false};
 ghost use Rattle.amqp_ser.specs.declared.kind.CompoundKind.{CompoundKind};
 ghost use Rattle.amqp_wire.specs.Kept.{kept, resolve};
 
-use crate::place::Place;
+use crate::position::Position;
 use crate::sink::{Mark, Opened};
 use amqp_ser::{CompoundKind, Marker};
 use amqp_size::ResolvedKind;
@@ -19,15 +19,15 @@ pub struct PassCompound {
     pub(crate) outer: Opened,
     /// The number of accepted parts.
     pub(crate) count: usize,
-    /// The place of the next part.
-    pub(crate) place: Place,
+    /// The position of the next part.
+    pub(crate) position: Position,
     /// The marker of the next part; `None` if no part is accepted.
     pub(crate) marker: Option<Marker>,
-    /// The place after the compound.
-    pub(crate) after: Place,
-    /// The position before the next part.
+    /// The position after the compound.
+    pub(crate) after: Position,
+    /// The mark before the next part.
     pub(crate) mark: Mark,
-    /// The position before the last part.
+    /// The mark before the last part.
     pub(crate) before_last: Mark,
 }
 
@@ -41,14 +41,14 @@ pub(crate) const NO_HEADER: Opened = Opened {
 const NO_MARK: Mark = Mark {
     len: 0,
     hints: 0,
-    spoiled: false,
+    poisoned: false,
 };
 
 impl PassCompound {
     ghost use Rattle.std.specs.Prelude.{◌+◌};
     ghost use Rattle.std.specs.Prelude.{◌<◌};
     ghost use Rattle.amqp_wire.specs.Kept.{with_part};
-    ghost use Rattle.amqp_wire.specs.Places.{IsOrdinary};
+    ghost use Rattle.amqp_wire.specs.Positions.{IsOrdinary};
 
     /// Creates an open compound without parts.
     #[inline(always)]
@@ -56,14 +56,14 @@ impl PassCompound {
         kind: ResolvedKind,
         outer: Opened,
         opened: Opened,
-        place: Place,
-        after: Place,
+        position: Position,
+        after: Position,
     ) -> PassCompound
         ensures kind { result.kind ≡ kind }
         ensures opened { result.opened ≡ opened }
         ensures outer { result.outer ≡ outer }
         ensures count { result.count ≡ 0 }
-        ensures place { result.place ≡ place }
+        ensures position { result.position ≡ position }
         ensures marker { result.marker ≡ Some Marker.Other }
         ensures after { result.after ≡ after }
     {
@@ -72,7 +72,7 @@ impl PassCompound {
             opened,
             outer,
             count: 0,
-            place,
+            position,
             marker: Some(Marker::Other),
             after,
             mark: NO_MARK,
@@ -80,12 +80,12 @@ impl PassCompound {
         }
     }
 
-    /// Creates a single compound, whose part has this place and this marker.
+    /// Creates a single compound, whose part has this position and this marker.
     #[inline(always)]
-    pub(crate) fn single(place: Place, marker: Option<Marker>) -> PassCompound
+    pub(crate) fn single(position: Position, marker: Option<Marker>) -> PassCompound
         ensures kind { result.kind ≡ ResolvedKind.Single }
         ensures count { result.count ≡ 0 }
-        ensures place { result.place ≡ place }
+        ensures position { result.position ≡ position }
         ensures marker { result.marker ≡ marker }
     {
         PassCompound {
@@ -93,9 +93,9 @@ impl PassCompound {
             opened: NO_HEADER,
             outer: NO_HEADER,
             count: 0,
-            place,
+            position,
             marker,
-            after: place,
+            after: position,
             mark: NO_MARK,
             before_last: NO_MARK,
         }
@@ -112,9 +112,9 @@ impl PassCompound {
             opened: NO_HEADER,
             outer: NO_HEADER,
             count: 0,
-            place: Place::Inside,
+            position: Position::Inside,
             marker: None,
-            after: Place::Inside,
+            after: Position::Inside,
             mark: NO_MARK,
             before_last: NO_MARK,
         }
@@ -144,11 +144,11 @@ impl PassCompound {
         }
     }
 
-    /// Accepts a part, after which the pass has this place: an array gets its constructor from its
-    /// first element, and a single compound has the place after its part. Returns `false`, and
+    /// Accepts a part, after which the pass has this position: an array gets its constructor from its
+    /// first element, and a single compound has the position after its part. Returns `false`, and
     /// changes nothing, if no part is accepted.
     #[inline(always)]
-    pub(crate) fn take(&mut self, after: Place) -> bool
+    pub(crate) fn take(&mut self, after: Position) -> bool
         ensures open { result ≡ true → self.old.kind ≡ ResolvedKind.Refused → ⊥ }
         ensures single { result ≡ true → self.old.kind ≡ ResolvedKind.Single → self.old.count ≡ 0 }
         ensures kind { self.new.kind ≡ self.old.kind }
@@ -162,7 +162,7 @@ impl PassCompound {
         self.count += 1;
         match self.kind {
             ResolvedKind::Array => {
-                self.place = after;
+                self.position = after;
                 true
             }
             ResolvedKind::Single => {
@@ -185,8 +185,8 @@ impl PassCompound {
     #[inline(always)]
     pub(crate) fn is_descriptor(&self) -> bool {
         match self.kind {
-            ResolvedKind::Single => match self.place {
-                Place::Descriptor => match self.marker {
+            ResolvedKind::Single => match self.position {
+                Position::Descriptor => match self.marker {
                     Some(Marker::Other) => true,
                     _ => false,
                 },
@@ -198,16 +198,16 @@ impl PassCompound {
 
     /// Returns whether this is a single compound that accepts a described value.
     #[inline(always)]
-    pub(crate) fn is_plain(&self) -> bool
+    pub(crate) fn is_unmarked(&self) -> bool
         ensures kind { result ≡ true → self.now.kind ≡ ResolvedKind.Single }
         ensures marker { result ≡ true → self.now.marker ≡ Some Marker.Other }
-        ensures place { result ≡ true → IsOrdinary self.now.place }
+        ensures position { result ≡ true → IsOrdinary self.now.position }
     {
         match self.kind {
             ResolvedKind::Single => match self.marker {
-                Some(Marker::Other) => match self.place {
-                    Place::Root => true,
-                    Place::Inside => true,
+                Some(Marker::Other) => match self.position {
+                    Position::Root => true,
+                    Position::Inside => true,
                     _ => false,
                 },
                 _ => false,

@@ -6,7 +6,7 @@ ghost use Rattle.amqp_ser.specs.Tree.{Tree};
 use crate::pass::{GaveUp, Pass, done};
 use crate::pass_begin::{has_header, header_of};
 use crate::pass_compound::{PassCompound, resolve};
-use crate::place::Place;
+use crate::position::Position;
 use crate::scalar_forms::{number_forms, text_codes};
 use crate::sink::{HeaderKind, Sink};
 use amqp_data::EncodingCodes;
@@ -109,7 +109,7 @@ impl<K: Sink> Serializer for Pass<K> {
 
     #[inline(always)]
     fn begin_part(&mut self, compound: &mut PassCompound) {
-        self.place = compound.place;
+        self.position = compound.position;
         self.marker = compound.marker;
         compound.mark = self.sink.mark();
     }
@@ -127,7 +127,7 @@ impl<K: Sink> Serializer for Pass<K> {
     {
         match part {
             Ok(()) => {
-                if compound.take(self.place) {
+                if compound.take(self.position) {
                     return Ok(());
                 }
                 self.sink.restore(compound.mark);
@@ -143,7 +143,7 @@ impl<K: Sink> Serializer for Pass<K> {
     #[inline(always)]
     fn begin_descriptor(&mut self, compound: &mut PassCompound) {
         compound.mark = self.sink.mark();
-        self.place = Place::Descriptor;
+        self.position = Position::Descriptor;
         self.marker = None;
         if self.sink.few(&[EncodingCodes::DescribedType as u8]) {
             self.marker = Some(Marker::Other);
@@ -172,8 +172,8 @@ impl<K: Sink> Serializer for Pass<K> {
                     return Err(GaveUp);
                 }
                 self.sink.rest();
-                if compound.is_plain() {
-                    compound.place = Place::Inside;
+                if compound.is_unmarked() {
+                    compound.position = Position::Inside;
                     return Ok(());
                 }
                 compound.refuse();
@@ -202,7 +202,7 @@ impl<K: Sink> Serializer for Pass<K> {
     #[inline(always)]
     fn end(&mut self, compound: PassCompound) -> Result<(), GaveUp> {
         let element = compound.after.is_element();
-        self.place = compound.after;
+        self.position = compound.after;
         if has_header(compound.kind) {
             let header = header_of(compound.kind);
             return done(

@@ -28,7 +28,7 @@ pub fn error_of<T: Serialize>(value: &T) -> Error
 /// Returns the length of the encoding, unless the pass gave up, and the hints with those of the
 /// value after them. No clause says that the length and the hints are those of the value.
 ///
-/// The serializer is created here, so that the compiler knows its place in a program that measures
+/// The serializer is created here, so that the compiler knows its position in a program that measures
 /// values of several types.
 ///
 /// # Memory
@@ -64,11 +64,11 @@ pub fn append_value<T: Serialize>(hints: Hints, out: Vec<u8>, value: &T) -> (boo
     let Appender {
         hints,
         out,
-        spoiled,
+        poisoned,
     } = pass.into_sink();
     match answer {
         Ok(()) => {
-            if spoiled {
+            if poisoned {
                 return (false, hints, out);
             }
             (true, hints, out)

@@ -6,7 +6,7 @@ ghost use Rattle.amqp_ser.specs.Limits.{fits, is_short};
 ghost use Rattle.amqp_ser.specs.Scalars.{scalar_form, sized};
 ghost use Rattle.amqp_ser.specs.Tree.{uint};
 ghost use Rattle.amqp_size.specs.ScalarEncoding.{form_bytes, form_payload};
-ghost use Rattle.amqp_wire.specs.Places.{pick};
+ghost use Rattle.amqp_wire.specs.Positions.{pick};
 
 use crate::sink::Sink;
 use amqp_ser::Fixed;

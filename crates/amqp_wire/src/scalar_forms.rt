@@ -17,7 +17,7 @@ pub(crate) struct NumberForms {
 
 /// Returns the forms of a value of fixed width under a marker, of which only that of timestamps is
 /// accepted.
-#[tactic(auto, using(crate::proofs::Given::plain_number, crate::proofs::Given::timestamp_number))]
+#[tactic(auto, using(crate::proofs::Given::unmarked_number, crate::proofs::Given::timestamp_number))]
 #[inline(always)]
 pub(crate) fn number_forms(marker: Option<Marker>, fixed: Fixed) -> Option<NumberForms>
     ensures { IfSome result (λ f. IsNumber marker fixed f.in_array f.ordinary) }

@@ -32,7 +32,7 @@ pub struct Opened {
     pub count: usize,
 }
 
-/// A position of a sink, to which it can return.
+/// A mark in a sink, to which it can return.
 #[derive(Clone, Copy, Debug)]
 pub struct Mark {
     /// The number of bytes.
@@ -40,7 +40,7 @@ pub struct Mark {
     /// The number of hints.
     pub hints: usize,
     /// Whether bytes that were added are missing.
-    pub spoiled: bool,
+    pub poisoned: bool,
 }
 
 /// Counts or appends bytes.
@@ -59,7 +59,7 @@ pub trait Sink: Drop {
     /// The second sink has the bytes of the first one, and then others.
     ghost extends: { Self → Self → Type 0 };
 
-    /// The position of the sink.
+    /// The mark of the sink.
     ghost marks: { Self → Mark → Type 0 };
 
     /// What is promised of the values that are added: whether they are in range, and which sinks
@@ -129,11 +129,11 @@ pub trait Sink: Drop {
             × adds self.old (encoding (W.whole_tree whole.now)) self.new)) }
         ensures ranged { result ≡ true → When reads.ranges (IsRanged (W.whole_tree whole.now)) };
 
-    /// Returns the position.
+    /// Returns the mark.
     fn mark(&self) -> Mark
         ensures { marks self.now result };
 
-    /// Returns to a position.
+    /// Returns to a mark.
     fn restore(&mut self, mark: Mark)
         ensures { (a : Self) → marks a mark → extends a self.old → adds a [] self.new };
 }

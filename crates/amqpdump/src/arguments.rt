@@ -1,6 +1,6 @@
 //! The arguments of the program.
 
-use amqp_dump::{Form, Options};
+use amqp_dump::{OutputFormat, Options};
 use clap::{Arg, ArgAction, ArgMatches, Command, Error, value_parser};
 use std::alloc::Global;
 
@@ -104,7 +104,7 @@ fn with_limits<'a>(alloc: Global, command: Command<'a>) -> Result<Command<'a>, E
 /// Returns what the arguments ask for.
 pub fn read_arguments<'a>(matches: &ArgMatches<'a>, is_terminal: bool) -> Arguments<'a> {
     let mut options = Options::tree();
-    options.form = form_of(matches, is_terminal);
+    options.form = output_format_of(matches, is_terminal);
     options.frames = matches.get_flag("frames");
     options.color = match matches.get_str("color") {
         Some("always") => true,
@@ -130,12 +130,12 @@ pub fn read_arguments<'a>(matches: &ArgMatches<'a>, is_terminal: bool) -> Argume
     }
 }
 
-fn form_of(matches: &ArgMatches<'_>, is_terminal: bool) -> Form {
+fn output_format_of(matches: &ArgMatches<'_>, is_terminal: bool) -> OutputFormat {
     if matches.get_flag("json") {
-        Form::Json
+        OutputFormat::Json
     } else if matches.get_flag("tree") || (is_terminal && !matches.get_flag("text")) {
-        Form::Tree
+        OutputFormat::Tree
     } else {
-        Form::Text
+        OutputFormat::Text
     }
 }

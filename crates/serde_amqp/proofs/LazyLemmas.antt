@@ -12,24 +12,24 @@ use Rattle.amqp_value.specs.Plain.{IsPlain, ArePlain, HasPlainPairs}
 use Rattle.amqp_value.specs.TreeOf.{tree_of}
 use Rattle.amqp_value.specs.declared.value.Value.{Value}
 use Rattle.amqp_decode.specs.Depth.{IsOrdinary, AreOrdinary, HasOrdinaryPairs, depth_of}
-use Rattle.amqp_decode.specs.Spells.{Spells}
-use Rattle.amqp_decode.proofs.Encodes.{encoding-spells}
-use Rattle.amqp_decode.proofs.OwnImage.{spelled-own_image}
+use Rattle.amqp_decode.specs.Encodes.{Encodes}
+use Rattle.amqp_decode.proofs.OwnEncoding.{own-encoding}
+use Rattle.amqp_decode.proofs.OwnImage.{encoded-own_image}
 use Rattle.amqp_decode.proofs.Whole.{one-tree}
-use Rattle.amqp_to_value.specs.ImageOf.{StandsFor, refuses}
+use Rattle.amqp_to_value.specs.ImageOf.{Represents, refuses}
 use Rattle.amqp_to_value.proofs.LazyLemmas.{read_refused}
 
--- The encoding of a tree spells its image.
-pub own-bytes : (t : Tree) → IsRanged t → writable t ≡ true → IsOrdinary t → (d : ℕ) → depth_of t ≤ d → Spells d (encoding t) (image t)
+-- The encoding of a tree encodes its image.
+pub own-bytes : (t : Tree) → IsRanged t → writable t ≡ true → IsOrdinary t → (d : ℕ) → depth_of t ≤ d → Encodes d (encoding t) (image t)
 own-bytes t r w o d le =
     let within_and = and_parts (within_limits t) (uniform_arrays t && placed t) w in
     let alike_and = and_parts (uniform_arrays t) (placed t) within_and.1 in
-    encoding-spells t (r, within_and.0, alike_and.0, o) d le
+    own-encoding t (r, within_and.0, alike_and.0, o) d le
 
-pub held-image : (t : Tree) (v : Value) → Spells 256 (encoding t) (image t) → StandsFor v (Some (lazy (encoding t))) → tree_of v ≡ image t
-held-image t v h s = s.2 ∙ spelled-own_image s.1 ∙ one-tree 256 256 (encoding t) s.0 (image t) s.1 h
+pub held-image : (t : Tree) (v : Value) → Encodes 256 (encoding t) (image t) → Represents v (Some (lazy (encoding t))) → tree_of v ≡ image t
+held-image t v h s = s.2 ∙ encoded-own_image s.1 ∙ one-tree 256 256 (encoding t) s.0 (image t) s.1 h
 
-pub held-refused : (t : Tree) (e : Error) → Spells 256 (encoding t) (image t) → refuses e (Some (lazy (encoding t))) → e ≡ OutOfMemory
+pub held-refused : (t : Tree) (e : Error) → Encodes 256 (encoding t) (image t) → refuses e (Some (lazy (encoding t))) → e ≡ OutOfMemory
 held-refused t e h r = read_refused e (lazy (encoding t)) (image t) h r
 
 mutual

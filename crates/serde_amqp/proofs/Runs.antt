@@ -11,7 +11,7 @@ use Rattle.std.proofs.KnownBytes.{Consumes-trans, Appends-trans, Appends-kept}
 use Rattle.amqp_data.specs.declared.error.Error.{Error}
 use Rattle.amqp_data.specs.declared.error.Error.TheVariants.{OutOfMemory, TooLong, InvalidValue, InvalidFormatCode, UnexpectedEof, Io, Message}
 use Rattle.amqp_frame.specs.Cut.{IsCut}
-use Rattle.amqp_frame.specs.Frame.{IsFrame, HasFrame, HasMalformed}
+use Rattle.amqp_frame.specs.EncodedValue.{IsEncodedValue, HasEncodedValue, HasMalformed}
 use Rattle.amqp_frame.specs.Reader.{Failed}
 use Rattle.amqp_frame.proofs.Taking.{failed-later}
 use Rattle.serde_amqp.specs.Writer.{TakesPrefix}
@@ -21,35 +21,35 @@ use Rattle.serde_amqp.specs.CutSteps.{PrintsNext, StopsInLine, StepRefuses}
 
 -- Exactly n encoded values were read, and their lines were written.
 abbrev pub Progress : Option (List ℕ) → Option (List ℕ) → Option (List ℕ) → Option (List ℕ) → ℕ → Type 0
-Progress a b w v n = (frames : List (List ℕ)) × (length frames ≡ n) × AllByRecursion IsFrame frames × Consumes a b (concat frames) × Appends w v (cut_lines frames)
+Progress a b w v n = (encoded_values : List (List ℕ)) × (length encoded_values ≡ n) × AllByRecursion IsEncodedValue encoded_values × Consumes a b (concat encoded_values) × Appends w v (cut_lines encoded_values)
 
-all-append : (xs ys : List (List ℕ)) → AllByRecursion IsFrame xs → AllByRecursion IsFrame ys → AllByRecursion IsFrame (xs ++ ys)
+all-append : (xs ys : List (List ℕ)) → AllByRecursion IsEncodedValue xs → AllByRecursion IsEncodedValue ys → AllByRecursion IsEncodedValue (xs ++ ys)
 all-append [] ys h k = k
 all-append (x ∷ xs) ys h k = (h.0, all-append xs ys h.1 k)
 
 pub progress-step : (a b c w v u : Option (List ℕ)) (n : ℕ) → Progress a b w v n → PrintsNext b c v u → Progress a c w u (n + 1)
-progress-step a b c w v u n (frames, size, each, read, put) (f, h, more, line) =
-    let all : concat frames ++ f ≡ concat (frames ++ f ∷ []) = ap (λ l. concat frames ++ l) (sym (append-nil f)) ∙ sym (concat-append frames (f ∷ [])) in
-    let text : cut_lines frames ++ cut_line f ≡ cut_lines (frames ++ f ∷ []) = ap (λ l. cut_lines frames ++ l) (sym (append-nil (cut_line f))) ∙ sym (flat_map-append cut_line frames (f ∷ [])) in (
-      frames ++ f ∷ [],
-      omega (arith, length-append frames (f ∷ [])),
-      all-append frames (f ∷ []) each (h, tt),
+progress-step a b c w v u n (encoded_values, size, each, read, put) (f, h, more, line) =
+    let all : concat encoded_values ++ f ≡ concat (encoded_values ++ f ∷ []) = ap (λ l. concat encoded_values ++ l) (sym (append-nil f)) ∙ sym (concat-append encoded_values (f ∷ [])) in
+    let text : cut_lines encoded_values ++ cut_line f ≡ cut_lines (encoded_values ++ f ∷ []) = ap (λ l. cut_lines encoded_values ++ l) (sym (append-nil (cut_line f))) ∙ sym (flat_map-append cut_line encoded_values (f ∷ [])) in (
+      encoded_values ++ f ∷ [],
+      omega (arith, length-append encoded_values (f ∷ [])),
+      all-append encoded_values (f ∷ []) each (h, tt),
       subst (Consumes a c) all (Consumes-trans a b c _ _ read more),
       subst (Appends w u) text (Appends-trans w v u _ _ put line),
     )
 
-none-in-nothing : ((f : List ℕ) → IsFrame f → 0 < length f) → ¬ HasFrame []
+none-in-nothing : ((f : List ℕ) → IsEncodedValue f → 0 < length f) → ¬ HasEncodedValue []
 none-in-nothing some_byte (f, r, h, e) =
     let some = some_byte f h in
     let len = ap length e in
     omega (arith, length-append f r)
 
 -- The run is complete if the input ends between encoded values.
-pub run-ends : ((f : List ℕ) → IsFrame f → 0 < length f) → (a b w v u : Option (List ℕ)) (n : ℕ) → Progress a b w v n → IsAtEnd b → Keeps v u → IfSome a (λ s. Prints s w u (λ rest. rest ≡ []))
+pub run-ends : ((f : List ℕ) → IsEncodedValue f → 0 < length f) → (a b w v u : Option (List ℕ)) (n : ℕ) → Progress a b w v n → IsAtEnd b → Keeps v u → IfSome a (λ s. Prints s w u (λ rest. rest ≡ []))
 run-ends some_byte None b w v u n p over kept = tt
 run-ends some_byte (Some s) None w v u n p over kept = absurd p.3
-run-ends some_byte (Some s) (Some x) w v u n (frames, size, each, read, put) over kept =
-    (frames, [], record { whole = read ∙ ap (λ l. concat frames ++ l) over; each = each; no_frame = none-in-nothing some_byte }, Appends-kept w v u _ put kept, refl)
+run-ends some_byte (Some s) (Some x) w v u n (encoded_values, size, each, read, put) over kept =
+    (encoded_values, [], record { whole = read ∙ ap (λ l. concat encoded_values ++ l) over; each = each; no_encoded_value = none-in-nothing some_byte }, Appends-kept w v u _ put kept, refl)
 
 -- All bytes have been read at that end.
 pub run-reads : (a b c w v : Option (List ℕ)) (n : ℕ) → Progress a b w v n → IsAtEnd b → Keeps b c → IfSome a (λ _. IsAtEnd c)
@@ -59,35 +59,35 @@ run-reads (Some s) (Some x) None w v n p over kept = absurd kept
 run-reads (Some s) (Some x) (Some y) w v n p over kept = kept ∙ over
 
 -- A step that returns an error, on a string that has a cut.
-module _ (some_cut : (s : List ℕ) → (frames : List (List ℕ)) × (rest : List ℕ) × IsCut s frames rest) where
+module _ (some_cut : (s : List ℕ) → (encoded_values : List (List ℕ)) × (rest : List ℕ) × IsCut s encoded_values rest) where
   stops-between : (s t : List ℕ) (w v u : Option (List ℕ)) (n : ℕ) → Progress (Some s) (Some t) w v n → Keeps v u → PrintsPrefix s w u
-  stops-between s t w v u n (frames, size, each, read, put) kept =
+  stops-between s t w v u n (encoded_values, size, each, read, put) kept =
       let more = some_cut t in
       let c = more.2 in
-      let whole : s ≡ concat (frames ++ more.0) ++ more.1 = read ∙ ap (λ l. concat frames ++ l) c.whole ∙ sym (append_assoc (concat frames) (concat more.0) more.1) ∙ ap (λ l. l ++ more.1) (sym (concat-append frames more.0)) in
-      let text : cut_lines frames ≡ take (length (cut_lines frames)) (cut_lines (frames ++ more.0)) = sym (take-append_seam (cut_lines frames) (cut_lines more.0)) ∙ ap (take (length (cut_lines frames))) (sym (flat_map-append cut_line frames more.0)) in
-      (frames ++ more.0, more.1, record { whole = whole; each = all-append frames more.0 each c.each; no_frame = c.no_frame }, (length (cut_lines frames), subst (Appends w u) text (Appends-kept w v u _ put kept)))
+      let whole : s ≡ concat (encoded_values ++ more.0) ++ more.1 = read ∙ ap (λ l. concat encoded_values ++ l) c.whole ∙ sym (append_assoc (concat encoded_values) (concat more.0) more.1) ∙ ap (λ l. l ++ more.1) (sym (concat-append encoded_values more.0)) in
+      let text : cut_lines encoded_values ≡ take (length (cut_lines encoded_values)) (cut_lines (encoded_values ++ more.0)) = sym (take-append_seam (cut_lines encoded_values) (cut_lines more.0)) ∙ ap (take (length (cut_lines encoded_values))) (sym (flat_map-append cut_line encoded_values more.0)) in
+      (encoded_values ++ more.0, more.1, record { whole = whole; each = all-append encoded_values more.0 each c.each; no_encoded_value = c.no_encoded_value }, (length (cut_lines encoded_values), subst (Appends w u) text (Appends-kept w v u _ put kept)))
 
-  stops-in-line : (s t : List ℕ) (w v u : Option (List ℕ)) (n : ℕ) (f r : List ℕ) → Progress (Some s) (Some t) w v n → IsFrame f → t ≡ f ++ r → TakesPrefix v u (cut_line f) → PrintsPrefix s w u
-  stops-in-line s t w v u n f r (frames, size, each, read, put) h e (k, line) =
+  stops-in-line : (s t : List ℕ) (w v u : Option (List ℕ)) (n : ℕ) (f r : List ℕ) → Progress (Some s) (Some t) w v n → IsEncodedValue f → t ≡ f ++ r → TakesPrefix v u (cut_line f) → PrintsPrefix s w u
+  stops-in-line s t w v u n f r (encoded_values, size, each, read, put) h e (k, line) =
       let more = some_cut r in
       let c = more.2 in
       let all = f ∷ more.0 in
       let later : t ≡ concat all ++ more.1 = e ∙ ap (λ l. f ++ l) c.whole ∙ sym (append_assoc f (concat more.0) more.1) in
-      let whole : s ≡ concat (frames ++ all) ++ more.1 = read ∙ ap (λ l. concat frames ++ l) later ∙ sym (append_assoc (concat frames) (concat all) more.1) ∙ ap (λ l. l ++ more.1) (sym (concat-append frames all)) in
+      let whole : s ≡ concat (encoded_values ++ all) ++ more.1 = read ∙ ap (λ l. concat encoded_values ++ l) later ∙ sym (append_assoc (concat encoded_values) (concat all) more.1) ∙ ap (λ l. l ++ more.1) (sym (concat-append encoded_values all)) in
       let own = cut_line f in
       let m = min k (length own) in
       let part : take m (own ++ cut_lines more.0) ≡ take k own = take-append-le m own (cut_lines more.0) (omega arith) ∙ take_min k own in
-      let text : cut_lines frames ++ take k own ≡ take (length (cut_lines frames) + m) (cut_lines (frames ++ all)) = ap (λ l. cut_lines frames ++ l) (sym part) ∙ sym (take-append-add (cut_lines frames) (cut_lines all) m) ∙ ap (take (length (cut_lines frames) + m)) (sym (flat_map-append cut_line frames all)) in
-      (frames ++ all, more.1, record { whole = whole; each = all-append frames all each (h, c.each); no_frame = c.no_frame }, (length (cut_lines frames) + m, subst (Appends w u) text (Appends-trans w v u _ _ put line)))
+      let text : cut_lines encoded_values ++ take k own ≡ take (length (cut_lines encoded_values) + m) (cut_lines (encoded_values ++ all)) = ap (λ l. cut_lines encoded_values ++ l) (sym part) ∙ sym (take-append-add (cut_lines encoded_values) (cut_lines all) m) ∙ ap (take (length (cut_lines encoded_values) + m)) (sym (flat_map-append cut_line encoded_values all)) in
+      (encoded_values ++ all, more.1, record { whole = whole; each = all-append encoded_values all each (h, c.each); no_encoded_value = c.no_encoded_value }, (length (cut_lines encoded_values) + m, subst (Appends w u) text (Appends-trans w v u _ _ put line)))
 
   stops : (s t : List ℕ) (w v u : Option (List ℕ)) (n : ℕ) → Progress (Some s) (Some t) w v n → StopsInLine t v u → PrintsPrefix s w u
   stops s t w v u n p (inl kept) = stops-between s t w v u n p kept
   stops s t w v u n p (inr (f, r, h, e, line)) = stops-in-line s t w v u n f r p h e line
 
-  at-rest : (s t : List ℕ) (w v u : Option (List ℕ)) (n : ℕ) (P : List ℕ → Type 0) → Progress (Some s) (Some t) w v n → Keeps v u → ¬ HasFrame t → P t → Prints s w u P
-  at-rest s t w v u n P (frames, size, each, read, put) kept over here =
-      (frames, t, record { whole = read; each = each; no_frame = over }, Appends-kept w v u _ put kept, here)
+  at-rest : (s t : List ℕ) (w v u : Option (List ℕ)) (n : ℕ) (P : List ℕ → Type 0) → Progress (Some s) (Some t) w v n → Keeps v u → ¬ HasEncodedValue t → P t → Prints s w u P
+  at-rest s t w v u n P (encoded_values, size, each, read, put) kept over here =
+      (encoded_values, t, record { whole = read; each = each; no_encoded_value = over }, Appends-kept w v u _ put kept, here)
 
   step-refused : (s t : List ℕ) (w v u : Option (List ℕ)) (n : ℕ) (e : Error) → Progress (Some s) (Some t) w v n → StepRefuses t v u e → CutRefuses s w u e
   step-refused s t w v u n OutOfMemory p h = stops s t w v u n p h
@@ -105,8 +105,8 @@ module _ (some_cut : (s : List ℕ) → (frames : List (List ℕ)) × (rest : Li
 
   -- After 2 ^ 64 - 1 encoded values, `TooLong` and an I/O error are errors of the run.
   at-most : (s t : List ℕ) (w v u : Option (List ℕ)) (e : Error) → Progress (Some s) (Some t) w v (2 ^ 64 - 1) → Keeps v u → (e ≡ TooLong → t ≢ []) → (e ≡ TooLong) ⊎ (e ≡ Io) → CutRefuses s w u e
-  at-most s t w v u e (frames, size, each, read, put) kept more (inl m) =
-      rw m (frames, t, size, each, read, more m, Appends-kept w v u _ put kept)
+  at-most s t w v u e (encoded_values, size, each, read, put) kept more (inl m) =
+      rw m (encoded_values, t, size, each, read, more m, Appends-kept w v u _ put kept)
   at-most s t w v u e p kept more (inr m) = rw m (stops-between s t w v u (2 ^ 64 - 1) p kept)
 
   pub run-finish-refused : {T : Type 0} (r : Result T Error) (a b w v u : Option (List ℕ)) → Progress a b w v (2 ^ 64 - 1) → Keeps v u → (IsErrOf r TooLong → IfSome b (λ t. t ≢ [])) → IfErr r (λ e. (e ≡ TooLong) ⊎ (e ≡ Io)) → IfErr r (λ e. IfSome a (λ s. CutRefuses s w u e))

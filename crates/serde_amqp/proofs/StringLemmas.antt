@@ -12,7 +12,7 @@ use Rattle.amqp_ser.specs.SizeAndBytes.{IsSizeOf, AreBytesOf}
 use Rattle.amqp_to_value.specs.HasLazy.{has_lazy, has_lazy_each}
 use Rattle.amqp_to_value.specs.ImageOf.{IsImageOf}
 use Rattle.amqp_to_value.proofs.LazyLemmas.{read_refused}
-use Rattle.amqp_to_value.proofs.ReadLemmas.{opened-itself, stands-image}
+use Rattle.amqp_to_value.proofs.ReadLemmas.{opened-itself, represents-image}
 use Rattle.amqp_value.specs.declared.value.Value.{Value}
 use Rattle.amqp_value.specs.Image.{image}
 use Rattle.amqp_value.specs.Text.{text_of}
@@ -100,7 +100,7 @@ pub reported : (items : List (Bor (List ℕ))) (size : ℕ) (bytes : List ℕ) (
 reported items size bytes value s b v =
     let size_is : (writable (strings_tree (texts items)) ≡ true) × (size ≡ length (encoding (strings_tree (texts items)))) × IsRanged (strings_tree (texts items)) = subst (λ t. IsSizeOf t (Ok size)) (strings-whole items) s in
     let bytes_are : (writable (strings_tree (texts items)) ≡ true) × (bytes ≡ encoding (strings_tree (texts items))) × IsRanged (strings_tree (texts items)) = subst (λ t. AreBytesOf t (Ok bytes)) (strings-whole items) b in
-    let value_is : tree_of value ≡ image (strings_tree (texts items)) = stands-image (strings_tree (texts items)) value (strings-not_lazy (texts items)) (subst (λ t. IsImageOf t (Ok value)) (strings-whole items) v) in (
+    let value_is : tree_of value ≡ image (strings_tree (texts items)) = represents-image (strings_tree (texts items)) value (strings-not_lazy (texts items)) (subst (λ t. IsImageOf t (Ok value)) (strings-whole items) v) in (
       size_is.0,
       ap (λ n. three_lines n bytes (text_of (tree_of value))) size_is.1
           ∙ (ap (λ l. three_lines (length (encoding (strings_tree (texts items)))) l (text_of (tree_of value))) bytes_are.1

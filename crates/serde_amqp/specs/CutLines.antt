@@ -6,8 +6,8 @@ use Rattle.amqp_data.specs.Hexadecimal.{hex}
 
 -- The line of an encoded value: its length, a space, its bytes in hexadecimal, and 0A.
 unfoldable pub cut_line : List ℕ → List ℕ
-cut_line frame = decimal (length frame) ++ 32 ∷ hex frame ++ 10 ∷ []
+cut_line encoded = decimal (length encoded) ++ 32 ∷ hex encoded ++ 10 ∷ []
 
 -- The lines of all encoded values, in order.
 abbrev pub cut_lines : List (List ℕ) → List ℕ
-cut_lines frames = flat_map cut_line frames
+cut_lines encoded_values = flat_map cut_line encoded_values

@@ -6,23 +6,23 @@ use Rattle.std.specs.Io.KnownBytes.{Appends}
 use Rattle.amqp_data.specs.declared.error.Error.{Error}
 use Rattle.amqp_data.specs.declared.error.Error.TheVariants.{OutOfMemory, TooLong, InvalidValue, InvalidFormatCode, UnexpectedEof, Io, Message}
 use Rattle.amqp_frame.specs.Cut.{IsCut}
-use Rattle.amqp_frame.specs.Frame.{IsFrame, IsIncomplete, HasMalformed}
+use Rattle.amqp_frame.specs.EncodedValue.{IsEncodedValue, IsIncomplete, HasMalformed}
 use Rattle.serde_amqp.specs.Writer.{TakesPrefix}
 use Rattle.serde_amqp.specs.CutLines.{cut_lines}
 
 -- The lines of all values of the cut were written, and P holds for its rest.
 abbrev pub Prints : List ℕ → Option (List ℕ) → Option (List ℕ) → (List ℕ → Type 0) → Type 0
-Prints s old new P = (frames : List (List ℕ)) × (rest : List ℕ) × IsCut s frames rest × Appends old new (cut_lines frames) × P rest
+Prints s old new P = (encoded_values : List (List ℕ)) × (rest : List ℕ) × IsCut s encoded_values rest × Appends old new (cut_lines encoded_values) × P rest
 
 -- A prefix of the lines of the cut was written.
 abbrev pub PrintsPrefix : List ℕ → Option (List ℕ) → Option (List ℕ) → Type 0
-PrintsPrefix s old new = (frames : List (List ℕ)) × (rest : List ℕ) × IsCut s frames rest × TakesPrefix old new (cut_lines frames)
+PrintsPrefix s old new = (encoded_values : List (List ℕ)) × (rest : List ℕ) × IsCut s encoded_values rest × TakesPrefix old new (cut_lines encoded_values)
 
 -- The lines of 2 ^ 64 - 1 values, the most that a run reads, were written, and more bytes follow.
 abbrev pub PrintsMost : List ℕ → Option (List ℕ) → Option (List ℕ) → Type 0
 PrintsMost s old new =
-    (frames : List (List ℕ)) × (rest : List ℕ) × (length frames ≡ 2 ^ 64 - 1) × AllByRecursion IsFrame frames
-    × (s ≡ concat frames ++ rest) × (rest ≢ []) × Appends old new (cut_lines frames)
+    (encoded_values : List (List ℕ)) × (rest : List ℕ) × (length encoded_values ≡ 2 ^ 64 - 1) × AllByRecursion IsEncodedValue encoded_values
+    × (s ≡ concat encoded_values ++ rest) × (rest ≢ []) × Appends old new (cut_lines encoded_values)
 
 -- An incomplete value of at least one byte.
 abbrev pub IsCutShort : List ℕ → Type 0
@@ -42,6 +42,6 @@ CutRefuses s old new (Message words) = ⊥
 -- I/O errors.
 abbrev pub CutDecidedBy : {T : Type 0} → List ℕ → Result T Error → Type 0
 CutDecidedBy s r =
-    (frames : List (List ℕ)) (rest : List ℕ) → IsCut s frames rest
+    (encoded_values : List (List ℕ)) (rest : List ℕ) → IsCut s encoded_values rest
     → IsErrOf r OutOfMemory ⊎ (IsErrOf r Io ⊎ ((IsErrOf r TooLong × (2 ^ 64 ≤ length s)) ⊎ ((IsOk r ↔ (rest ≡ []))
     × (IsErrOf r InvalidFormatCode ↔ HasMalformed rest) × (IsErrOf r UnexpectedEof ↔ IsCutShort rest))))

@@ -30,7 +30,7 @@ pub use Rattle.amqp_data.specs.declared.transparent_vec.TransparentVec
 pub use Rattle.amqp_data.specs.declared.uuid.Uuid
 pub use Rattle.amqp_frame.specs.Code
 pub use Rattle.amqp_frame.specs.Cut
-pub use Rattle.amqp_frame.specs.Frame
+pub use Rattle.amqp_frame.specs.EncodedValue
 pub use Rattle.amqp_frame.specs.Reader
 pub use Rattle.amqp_frame.specs.Taking
 pub use Rattle.amqp_frame.specs.declared.lazy.LazyValue
@@ -74,7 +74,7 @@ pub use Rattle.amqp_de.specs.Places
 pub use Rattle.amqp_de.specs.Present
 pub use Rattle.amqp_de.specs.Reads
 pub use Rattle.amqp_de.specs.Results
-pub use Rattle.amqp_de.specs.Spelled
+pub use Rattle.amqp_de.specs.FromBytes
 pub use Rattle.amqp_de.specs.declared.branches.Either
 pub use Rattle.amqp_de.specs.declared.branches.Never
 pub use Rattle.amqp_de.specs.declared.fault.Fault

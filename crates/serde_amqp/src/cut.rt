@@ -18,7 +18,7 @@ use std::alloc::Global;
 /// The line is the length of the value in decimal, a space, its bytes in lower-case hexadecimal,
 /// and 0A. The writer is flushed at the end of the input.
 ///
-/// Public names use "frame" for an encoded value, as the crate `serde_amqp` does. It is not a frame
+/// Some public names use "frame" for an encoded value, as the crate `serde_amqp` does. It is not a frame
 /// of the transport, which has a header of eight bytes (AMQP 1.0 part 2, section 2.3).
 ///
 /// # Encoding
@@ -115,8 +115,8 @@ fn print_next<R: Read, W: Write>(
         writer.flush()?;
         return Ok(false);
     }
-    let frame = LazyValue::from_reader(alloc, reader)?;
-    let line = line_of(alloc, frame.as_slice())?;
+    let encoded = LazyValue::from_reader(alloc, reader)?;
+    let line = line_of(alloc, encoded.as_slice())?;
     writer.put(&line)?;
     Ok(true)
 }
@@ -143,17 +143,17 @@ fn finish<R: Read, W: Write>(reader: &mut R, writer: &mut W) -> Result<(), Error
 
 // Returns the line of an encoded value.
 #[tactic(auto, unfolding(crate::specs::CutLines::cut_line))]
-fn line_of(alloc: Global, frame: &[u8]) -> Result<Vec<u8>, Error>
-    ensures ok { IfOk result (λ line. line.items ≡ cut_line frame.now) }
+fn line_of(alloc: Global, encoded: &[u8]) -> Result<Vec<u8>, Error>
+    ensures ok { IfOk result (λ line. line.items ≡ cut_line encoded.now) }
     ensures memory { IsOkUnless result Error.OutOfMemory }
 {
-    let length = frame.len().to_string(alloc)?;
-    let digits = frame.len().saturating_mul(2);
+    let length = encoded.len().to_string(alloc)?;
+    let digits = encoded.len().saturating_mul(2);
     let len = digits.saturating_add(length.len()).saturating_add(2);
     let mut line = Vec::with_capacity(alloc, len)?;
     line.extend_from_slice(length.as_bytes())?;
     line.push(b' ')?;
-    push_hexadecimal(&mut line, frame)?;
+    push_hexadecimal(&mut line, encoded)?;
     line.push(b'\n')?;
     Ok(line)
 }

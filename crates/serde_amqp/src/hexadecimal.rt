@@ -19,13 +19,13 @@ pub(crate) fn push_hexadecimal(text: &mut Vec<u8>, bytes: &[u8]) -> Result<(), E
         return Err(Error::OutOfMemory);
     };
     text.resize(end, 0)?;
-    write_hexadecimal(&mut text[start..], bytes);
+    fill_hexadecimal(&mut text[start..], bytes);
     Ok(())
 }
 
 // Writes two digits for each byte. Without a test in it, the loop is compiled to vector
 // instructions.
-fn write_hexadecimal(digits: &mut [u8], bytes: &[u8])
+fn fill_hexadecimal(digits: &mut [u8], bytes: &[u8])
     requires { length digits.old ≡ 2 * length bytes.now }
     ensures { digits.new ≡ hex bytes.now }
 {

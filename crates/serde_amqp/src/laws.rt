@@ -8,7 +8,7 @@ ghost use Rattle.amqp_ser.specs.Encoding.{encoding};
 ghost use Rattle.amqp_ser.specs.Ranged.{IsRanged};
 ghost use Rattle.amqp_ser.specs.Tree.{Tree, lazy};
 ghost use Rattle.amqp_ser.specs.Writable.{writable};
-ghost use Rattle.amqp_to_value.specs.ImageOf.{StandsFor, refuses};
+ghost use Rattle.amqp_to_value.specs.ImageOf.{Represents, refuses};
 ghost use Rattle.amqp_value.specs.Image.{image};
 ghost use Rattle.amqp_value.specs.Plain.{IsPlain};
 ghost use Rattle.amqp_value.specs.Sound.{IsSound};
@@ -31,7 +31,7 @@ pub fn text_is_its_lines()
 /// `OutOfMemory`.
 pub fn lazy_values_have_the_image_of_what_they_hold()
     ensures image { (t : Tree) (v : Value) → IsRanged t → writable t ≡ true → IsOrdinary t →
-        depth_of t ≤ 256 → StandsFor v (Some (lazy (encoding t))) → tree_of v ≡ image t }
+        depth_of t ≤ 256 → Represents v (Some (lazy (encoding t))) → tree_of v ≡ image t }
     ensures read { (t : Tree) (e : Error) → IsRanged t → writable t ≡ true → IsOrdinary t →
         depth_of t ≤ 256 → refuses e (Some (lazy (encoding t))) → e ≡ OutOfMemory }
 {}
@@ -43,7 +43,7 @@ pub fn lazy_values_have_the_image_of_what_they_hold()
 /// that represents it.
 pub fn sound_values_return_from_lazy_values()
     ensures value { (v w : Value) → IsSound v → IsRanged (tree_of v) → writable (tree_of v) ≡ true →
-        depth_of (tree_of v) ≤ 256 → StandsFor w (Some (lazy (encoding (tree_of v)))) →
+        depth_of (tree_of v) ≤ 256 → Represents w (Some (lazy (encoding (tree_of v)))) →
         tree_of w ≡ tree_of v }
     ensures written { (v : Value) (e : Error) → writable (tree_of v) ≡ true →
         IsLazyOf (Some (tree_of v)) (Err e) → e ≡ OutOfMemory }

@@ -4,13 +4,13 @@ use crate::notation::{bytes_of, number_of, word_of};
 use crate::row::refusal;
 use amqp_data::Error;
 use amqp_decode::decode_value;
-use amqp_frame::{LazyValue, Read, SliceReader, frame_len, is_frame};
+use amqp_frame::{LazyValue, Read, SliceReader, frame_len, is_encoded_value};
 use std::alloc::Global;
 
 /// Returns the length of the encoded value at the start of the bytes, and whether it is all of
 /// them.
-pub fn frame(alloc: Global, bytes: &[u8]) -> Result<String, Error> {
-    let whole = is_frame(bytes);
+pub fn encoded_value(alloc: Global, bytes: &[u8]) -> Result<String, Error> {
+    let whole = is_encoded_value(bytes);
     match frame_len(bytes) {
         Some(len) => Ok(format!(in alloc; "{len} {whole}")?),
         None => Ok(format!(in alloc; "none {whole}")?),
@@ -82,5 +82,5 @@ fn is_incomplete(alloc: Global, bytes: &[u8]) -> bool {
     matches!(&value, Err(Error::UnexpectedEof))
         && matches!(&cut, Err(Error::UnexpectedEof))
         && frame_len(bytes).is_none()
-        && !is_frame(bytes)
+        && !is_encoded_value(bytes)
 }

@@ -17,7 +17,7 @@
 //! | `count_lazy BYTES` | the same of the image of the lazy value |
 //! | `depth BYTES` | the number of lists around the empty one |
 //! | `compare BYTES BYTES` | `cmp` of the two values, and which of `<`, `=` and `>` are true |
-//! | `frame BYTES` | `frame_len` and `is_frame` |
+//! | `encoded_value BYTES` | `frame_len` and `is_encoded_value` |
 //! | `cut BYTES` | the result of each call of `LazyValue::from_reader` until no byte is left |
 //! | `cut_within LENGTH BYTES` | the result of `LazyValue::from_reader_limited`, and the bytes that are left |
 //! | `prefixes BYTES` | the number of proper prefixes, and of incomplete ones |

@@ -30,7 +30,7 @@ fn of_bytes(alloc: Global, call: &str, bytes: &[u8]) -> Result<String, Error> {
         "count" => values::count(alloc, bytes),
         "count_lazy" => values::count_lazy(alloc, bytes),
         "depth" => values::depth(alloc, bytes),
-        "frame" => cuts::frame(alloc, bytes),
+        "encoded_value" => cuts::encoded_value(alloc, bytes),
         "cut" => cuts::cut(alloc, bytes),
         "prefixes" => cuts::prefixes(alloc, bytes),
         _ => Err(Error::Message("no such call")),

@@ -2,7 +2,7 @@
 
 ghost use Rattle.std.specs.Prelude.{◌≡◌, [], List, IfOk};
 ghost use Rattle.amqp_data.specs.Pairs.{insert_pair, insert_pairs};
-ghost use Rattle.amqp_data.specs.Places.{Indexes, place, places};
+ghost use Rattle.amqp_data.specs.KeyPositions.{Indexes, key_position, key_positions};
 
 use crate::keys::put;
 use std::alloc::{AllocError, Global};
@@ -22,13 +22,13 @@ pub fn once_each_by_order<K: Ord + Drop, V: Drop>(
 ) -> Result<Vec<(K, V)>, AllocError>
     ensures { IfOk result (λ made. made.items ≡ insert_pairs K.eq entries.items []) }
 {
-    let found = places_of(alloc, &entries)?;
+    let found = key_positions_of(alloc, &entries)?;
     rebuild(alloc, entries, found)
 }
 
 // Returns, for each entry, the position of its key among the entries before it, if it is there.
-fn places_of<K: Ord, V>(alloc: Global, entries: &[(K, V)]) -> Result<Vec<Option<usize>>, AllocError>
-    ensures { IfOk result (λ found. found.items ≡ places K.eq entries.now []) }
+fn key_positions_of<K: Ord, V>(alloc: Global, entries: &[(K, V)]) -> Result<Vec<Option<usize>>, AllocError>
+    ensures { IfOk result (λ found. found.items ≡ key_positions K.eq entries.now []) }
 {
     let mut index: BTreeMap<&K, usize> = BTreeMap::new(alloc);
     let mut found = Vec::new(alloc);
@@ -45,7 +45,7 @@ fn find_or_add<'a, K: Ord, V>(
     key: &'a K,
 ) -> Result<Option<usize>, AllocError>
     ensures { IfOk result (λ at. (done : List (K × V)) → Indexes K.eq K.cmp done index.old →
-        (at ≡ place K.eq key.now done)
+        (at ≡ key_position K.eq key.now done)
         × ((v : V) → Indexes K.eq K.cmp (insert_pair K.eq done key.now v) index.new)) }
 {
     if let Some(at) = index.get(&key) {
@@ -62,7 +62,7 @@ fn rebuild<K: Ord + Drop, V: Drop>(
     entries: Vec<(K, V)>,
     found: Vec<Option<usize>>,
 ) -> Result<Vec<(K, V)>, AllocError>
-    requires { found.items ≡ places K.eq entries.items [] }
+    requires { found.items ≡ key_positions K.eq entries.items [] }
     ensures { IfOk result (λ made. made.items ≡ insert_pairs K.eq entries.items []) }
 {
     let mut made = Vec::new(alloc);

@@ -4,7 +4,7 @@ ghost use Rattle.std.specs.Prelude.{◌≡◌, ◌⊎◌, List, length, map, tak
 ghost use Rattle.std.specs.List.{AllZip, AllByRecursion};
 ghost use Rattle.amqp_ser.specs.Tree.{Tree, list, trees_of};
 ghost use Rattle.amqp_de.specs.Reads.{OnList, ReadsFirst};
-ghost use Rattle.amqp_de.specs.Results.{IsMemory, Reading};
+ghost use Rattle.amqp_de.specs.Results.{IsMemory, ReadsAndRestores};
 
 use crate::deserialize::Deserialize;
 use crate::fault::Fault;
@@ -22,7 +22,7 @@ fn read_first<T: Deserialize, S: Source>(
     count: usize,
 ) -> Result<Vec<T>, Fault>
     ensures ok { IfOk result (λ v. (ts : List Tree) × S.holds elements ts × (length v.items ≡ count)
-        × AllZip (Reading T.reads T.image T.restorable T.same) (take count ts) v.items) }
+        × AllZip (ReadsAndRestores T.reads T.image T.restorable T.same) (take count ts) v.items) }
     ensures err { IfErr result (λ e. S.are_whole elements → IsMemory e
         ⊎ ((xs : List T) → ¬ ReadsFirst T.reads count (S.items elements) xs)) }
     ensures law { (xs : List T) → AllByRecursion T.restorable xs → length xs ≡ count →
@@ -37,11 +37,11 @@ fn read_first<T: Deserialize, S: Source>(
     'elements: while values.len() < count {
         let source = match S::next(&mut elements) {
             Some(source) => source,
-            None => return Err(S::missing("", S::taken(&elements))),
+            None => return Err(S::missing("", S::count_read(&elements))),
         };
         let (value, rest) = match T::read(alloc, source) {
             Ok(read) => read,
-            Err(fault) => return Err(S::placed(fault, "", S::taken(&elements))),
+            Err(fault) => return Err(S::placed(fault, "", S::count_read(&elements))),
         };
         S::resume(&mut elements, rest);
         if values.push(value).is_err() {

@@ -3,7 +3,7 @@
 ghost use Rattle.std.specs.Prelude.{◌≡◌};
 ghost use Rattle.amqp_ser.specs.Carried.{descriptor_content};
 ghost use Rattle.amqp_ser.specs.Tree.{described};
-ghost use Rattle.amqp_decode.specs.Spells.{descriptor_scalar};
+ghost use Rattle.amqp_decode.specs.Encodes.{descriptor_scalar};
 ghost use Rattle.amqp_de.specs.Fields.{OnDescribed};
 ghost use Rattle.amqp_de.specs.Reads.{Always, descriptor_tree};
 

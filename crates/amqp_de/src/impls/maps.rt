@@ -9,8 +9,8 @@ ghost use Rattle.amqp_ser.specs.Tree as tree;
 ghost use Rattle.amqp_ser.specs.Tree.{Tree};
 ghost use Rattle.amqp_value.specs.TreeOf.{pairs_of};
 ghost use Rattle.amqp_de.specs.Maps.{OnMap, ReadsPair, ReadsPairs, pair_image, IsPair, SamePair};
-ghost use Rattle.amqp_de.specs.Maps.{HoldsInOrder, HoldsSorted, AreDistinct, Ascend};
-ghost use Rattle.amqp_de.specs.Results.{IsMemory, Reading};
+ghost use Rattle.amqp_de.specs.Maps.{HoldsInOrder, HoldsSorted, AreDistinct, AreAscending};
+ghost use Rattle.amqp_de.specs.Results.{IsMemory, ReadsAndRestores};
 
 use crate::deserialize::Deserialize;
 use crate::fault::Fault;
@@ -53,7 +53,7 @@ fn once_each<K: Hash + Eq + Drop, V: Drop>(
     }
 }
 
-// Does the same for entries whose keys may repeat.
+// Like the function above, for entries whose keys may repeat.
 fn insert_by_hashes<K: Hash + Eq + Drop, V: Drop>(
     alloc: Global,
     entries: Vec<(K, V)>,
@@ -71,8 +71,8 @@ fn read_entries<K: Deserialize, V: Deserialize, S: Source>(
     entries: S::Entries,
 ) -> Result<Vec<(K, V)>, Fault>
     ensures ok { IfOk result (λ v. (ps : List (Tree × Tree)) × S.holds_pairs entries ps
-        × AllZip (ReadsPair (Reading K.reads K.image K.restorable K.same)
-        (Reading V.reads V.image V.restorable V.same)) ps v.items) }
+        × AllZip (ReadsPair (ReadsAndRestores K.reads K.image K.restorable K.same)
+        (ReadsAndRestores V.reads V.image V.restorable V.same)) ps v.items) }
     ensures err { IfErr result (λ e. S.pairs_whole entries → IsMemory e
         ⊎ ((xs : List (K × V)) → ¬ AllZip (ReadsPair K.reads V.reads) (S.pairs entries) xs)) }
     ensures law { (xs : List (K × V)) → AllByRecursion (IsPair K.restorable V.restorable) xs →
@@ -97,7 +97,7 @@ fn read_entries<K: Deserialize, V: Deserialize, S: Source>(
         };
         let (key, rest) = match K::read(alloc, source) {
             Ok(read) => read,
-            Err(fault) => return Err(S::placed(fault, "", S::taken_entries(&entries))),
+            Err(fault) => return Err(S::placed(fault, "", S::entries_read(&entries))),
         };
         let source = match S::value_after(&mut entries, pending, rest) {
             Ok(source) => source,
@@ -105,7 +105,7 @@ fn read_entries<K: Deserialize, V: Deserialize, S: Source>(
         };
         let (value, rest) = match V::read(alloc, source) {
             Ok(read) => read,
-            Err(fault) => return Err(S::placed(fault, "", S::taken_entries(&entries))),
+            Err(fault) => return Err(S::placed(fault, "", S::entries_read(&entries))),
         };
         S::resume_entries(&mut entries, rest);
         if items.push((key, value)).is_err() {
@@ -123,8 +123,8 @@ pub(super) fn read_certain<K: Deserialize, V: Deserialize, S: Source>(
 ) -> Result<Vec<(K, V)>, Fault>
     ensures ok { IfOk result (λ v. (ps : List (Tree × Tree))
         × S.holds_pairs entries ps × S.apart (keys_of ps)
-        × AllZip (ReadsPair (Reading K.reads K.image K.restorable K.same)
-        (Reading V.reads V.image V.restorable V.same)) ps v.items) }
+        × AllZip (ReadsPair (ReadsAndRestores K.reads K.image K.restorable K.same)
+        (ReadsAndRestores V.reads V.image V.restorable V.same)) ps v.items) }
     ensures err { IfErr result (λ e. S.pairs_whole entries → IsMemory e
         ⊎ ((xs : List (K × V)) → ¬ AllZip (ReadsPair K.reads V.reads) (S.pairs entries) xs)) }
     ensures law { (xs : List (K × V)) → AllByRecursion (IsPair K.restorable V.restorable) xs →
@@ -152,7 +152,7 @@ impl<K: Deserialize + Ord, V: Deserialize> Deserialize for BTreeMap<K, V> {
     ghost image = { λ m. tree.map (pairs_of (map (pair_image K.image V.image) m.entries)) };
 
     ghost restorable = { λ m. AllByRecursion (IsPair K.restorable V.restorable) m.entries
-        × Ascend K.same K.cmp (keys_of m.entries) };
+        × AreAscending K.same K.cmp (keys_of m.entries) };
 
     ghost same = { λ m n. AllZip (SamePair K.same V.same) m.entries n.entries };
 

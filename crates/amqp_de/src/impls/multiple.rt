@@ -8,7 +8,7 @@ ghost use Rattle.amqp_de.specs.Results.{Takes, Brings, TakesAll, BringsAll};
 
 use crate::deserialize::Deserialize;
 use crate::fault::Fault;
-use crate::form::Form;
+use crate::source_kind::SourceKind;
 use crate::held::read_value;
 use crate::source::Source;
 use amqp_data::{Array, Multiple};
@@ -25,8 +25,8 @@ impl<T: Deserialize> Deserialize for Multiple<T> {
     ghost same = { SameMultiple T.same };
 
     fn read<S: Source>(alloc: Global, source: S) -> Result<(Multiple<T>, S::Rest), Fault> {
-        match source.looks() {
-            Form::Array => match Array::<T>::read(alloc, source) {
+        match source.source_kind() {
+            SourceKind::Array => match Array::<T>::read(alloc, source) {
                 Ok((values, rest)) => Ok((Multiple::Many(values), rest)),
                 Err(fault) => Err(fault),
             },

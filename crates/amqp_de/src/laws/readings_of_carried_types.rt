@@ -23,7 +23,7 @@ ghost use Rattle.amqp_value.specs.Converts.{inserted_in_order, inserted_sorted};
 ghost use Rattle.amqp_value.specs.Sound.{IsSound};
 ghost use Rattle.amqp_value.specs.TreeOf.{pairs_of, tree_of};
 ghost use Rattle.amqp_value.specs.declared.value.Value.{Value};
-ghost use Rattle.amqp_de.specs.Maps.{AreDistinct, Ascend, ReadsPairs, SameInSomeOrder};
+ghost use Rattle.amqp_de.specs.Maps.{AreDistinct, AreAscending, ReadsPairs, SameInSomeOrder};
 ghost use Rattle.amqp_de.specs.Readings.{BeginsWith, ImageOfEach, ReadsEach, ReadsScalar};
 ghost use Rattle.amqp_de.specs.Readings.{RestorableIfEach, SameIfEach};
 ghost use Rattle.amqp_de.specs.Values.{elements_in, entries_in};
@@ -240,7 +240,7 @@ pub fn images_of_maps<K: Deserialize + Ord + Hash, V: Deserialize>(
         × AreDistinct K.same K.eq (keys_of (entries_of m))) }
     ensures sorted_restorable { ⟦<BTreeMap<K, V> as Deserialize>⟧.restorable sorted.now
         ↔ (AllByRecursion (λ p. K.restorable p.0 × V.restorable p.1) sorted.now.entries
-        × Ascend K.same K.cmp (keys_of sorted.now.entries)) }
+        × AreAscending K.same K.cmp (keys_of sorted.now.entries)) }
     ensures hashed_restorable { ⟦<HashMap<K, V> as Deserialize>⟧.restorable hashed.now
         ↔ (AllByRecursion (λ p. K.restorable p.0 × V.restorable p.1) hashed.now.entries
         × AreDistinct K.same K.eq (keys_of hashed.now.entries)) }

@@ -8,7 +8,7 @@ ghost use Rattle.amqp_ser.specs.OpenStructs.{struct_reference, form_of, has_desc
 ghost use Rattle.amqp_ser.specs.Structs.{struct_encoding, is_basic_name, is_tagged, named_variant};
 
 use crate::compound::described::serialize_described;
-use crate::compound::feed::feed_part;
+use crate::compound::part::serialize_part;
 use crate::compound::{
     SerializeMap, SerializeSeq, SerializeStruct, SerializeStructVariant, SerializeTuple,
     SerializeTupleStruct, SerializeTupleVariant,
@@ -131,7 +131,7 @@ pub trait SerializeCompounds: Serializer {
     /// # Example
     /// The ubyte 1 and `true` are `c00402500141`. Under the name `DESCRIBED_LIST` the ulong 1 and
     /// `true` are `005301c0020141`.
-    #[tactic(auto, unfolding(crate::specs::Structs::Stands))]
+    #[tactic(auto, unfolding(crate::specs::Structs::HasDescribed))]
     #[inline(always)]
     final fn serialize_tuple_struct(
         &mut self,
@@ -176,7 +176,7 @@ pub trait SerializeCompounds: Serializer {
     /// # Example
     /// The fields `x`, the ubyte 1, and `y`, `true`, are `c00402500141`. Under the name
     /// `DESCRIBED_MAP` the one field `x` is `c10602a101785001`.
-    #[tactic(auto, unfolding(crate::specs::Structs::Stands))]
+    #[tactic(auto, unfolding(crate::specs::Structs::HasDescribed))]
     #[inline(always)]
     final fn serialize_struct(
         &mut self,
@@ -287,7 +287,7 @@ pub trait SerializeCompounds: Serializer {
         if is_descriptor_name(name) {
             return Err(self.misuse_error(&mut compound));
         }
-        feed_part(self, &mut compound, v)?;
+        serialize_part(self, &mut compound, v)?;
         self.end(compound)
     }
 

@@ -1,12 +1,12 @@
 //! Serialization of a field, or the descriptor, of a struct of any form.
 
 ghost use Rattle.std.specs.Prelude.{◌≡◌};
-ghost use Rattle.amqp_ser.specs.StructFeeding.{FieldStep};
+ghost use Rattle.amqp_ser.specs.StructSteps.{FieldStep};
 ghost use Rattle.amqp_ser.specs.Structs.{is_misplaced};
 
 use super::body::open_body;
-use super::described::{feed_descriptor, feed_single};
-use super::feed::{feed_entry, feed_part};
+use super::described::{serialize_descriptor, serialize_single};
+use super::part::{serialize_map_entry, serialize_part};
 use crate::names::is_descriptor_name;
 use crate::serialize::Serialize;
 use crate::serializer::Serializer;
@@ -28,9 +28,9 @@ fn is_misplaced(form: StructEncoding, described: bool, opened: bool, descriptor:
 
 /// Serializes a field or the descriptor. The open compound is passed and returned by value, so that
 /// the caller does not keep it in memory.
-#[tactic(auto, unfolding(crate::specs::Structs::Stands))]
+#[tactic(auto, unfolding(crate::specs::Structs::HasDescribed))]
 #[inline(never)]
-pub(crate) fn feed_owned<S: Serializer, T: Serialize>(
+pub(crate) fn serialize_owned_field<S: Serializer, T: Serialize>(
     serializer: &mut S,
     compound: S::Open,
     form: StructEncoding,
@@ -49,40 +49,40 @@ pub(crate) fn feed_owned<S: Serializer, T: Serialize>(
         return (compound, Err(e));
     }
     if descriptor {
-        let fed = feed_descriptor(serializer, &mut compound, value);
-        return (compound, fed);
+        let accepted = serialize_descriptor(serializer, &mut compound, value);
+        return (compound, accepted);
     }
     if opened {
         return match form {
             StructEncoding::Map => {
-                let fed = feed_entry(serializer, &mut compound, &key, value);
-                (compound, fed)
+                let accepted = serialize_map_entry(serializer, &mut compound, &key, value);
+                (compound, accepted)
             }
             _ => {
-                let fed = feed_part(serializer, &mut compound, value);
-                (compound, fed)
+                let accepted = serialize_part(serializer, &mut compound, value);
+                (compound, accepted)
             }
         };
     }
     match form {
         StructEncoding::List => {
-            let fed = open_body(serializer, &mut compound, false, key, value);
-            (compound, fed)
+            let accepted = open_body(serializer, &mut compound, false, key, value);
+            (compound, accepted)
         }
         StructEncoding::Map => {
-            let fed = open_body(serializer, &mut compound, true, key, value);
-            (compound, fed)
+            let accepted = open_body(serializer, &mut compound, true, key, value);
+            (compound, accepted)
         }
         StructEncoding::Single => {
-            let fed = feed_single(serializer, &mut compound, value);
-            (compound, fed)
+            let accepted = serialize_single(serializer, &mut compound, value);
+            (compound, accepted)
         }
     }
 }
 
-/// Like `feed_owned`, with the open compound moved out of `compound` and back.
+/// Like `serialize_owned_field`, with the open compound moved out of `compound` and back.
 #[inline(always)]
-pub(crate) fn feed_any<S: Serializer, T: Serialize>(
+pub(crate) fn serialize_any_field<S: Serializer, T: Serialize>(
     serializer: &mut S,
     compound: &mut S::Open,
     form: StructEncoding,
@@ -96,7 +96,7 @@ pub(crate) fn feed_any<S: Serializer, T: Serialize>(
 {
     let placeholder = serializer.placeholder();
     let moved = mem::replace(compound, placeholder);
-    let (back, fed) = feed_owned(serializer, moved, form, described, opened, key, value);
+    let (back, accepted) = serialize_owned_field(serializer, moved, form, described, opened, key, value);
     *compound = back;
-    fed
+    accepted
 }

@@ -3,11 +3,11 @@
 ghost use Rattle.std.specs.Prelude.{◌≡◌, ◌++◌, [], List, Option, None, Err, MatchResult, IfErr, IsErr};
 ghost use Rattle.amqp_ser.specs.Tree.{Tree};
 ghost use Rattle.amqp_ser.specs.Compounds.{tree_of_parts};
-ghost use Rattle.amqp_ser.specs.StructFeeding.{EndStep};
-ghost use Rattle.amqp_ser.specs.Structs.{Stands, form_kind, fields_kind, field_parts};
+ghost use Rattle.amqp_ser.specs.StructSteps.{EndStep};
+ghost use Rattle.amqp_ser.specs.Structs.{HasDescribed, form_kind, fields_kind, field_parts};
 
 use super::described::end_single;
-use super::feed::{feed_entry, feed_part};
+use super::part::{serialize_map_entry, serialize_part};
 use crate::kind::CompoundKind;
 use crate::serialize::Serialize;
 use crate::serializer::Serializer;
@@ -15,10 +15,10 @@ use crate::struct_encoding::StructEncoding;
 
 /// Returns the kind of a body: a map if the fields have names, otherwise a list.
 #[inline(always)]
-fn fields_kind(named: bool) -> CompoundKind
-    ensures { result ≡ fields_kind named }
+fn fields_kind(in_map: bool) -> CompoundKind
+    ensures { result ≡ fields_kind in_map }
 {
-    if named {
+    if in_map {
         CompoundKind::Map
     } else {
         CompoundKind::List
@@ -27,53 +27,53 @@ fn fields_kind(named: bool) -> CompoundKind
 
 /// Serializes the first field of an open list or map. On an error the compound is unchanged.
 #[inline(always)]
-fn feed_field<S: Serializer, T: Serialize>(
+fn serialize_body_field<S: Serializer, T: Serialize>(
     serializer: &mut S,
     compound: &mut S::Open,
-    named: bool,
+    in_map: bool,
     key: &'static str,
     value: &T,
 ) -> Result<(), S::Error>
-    ensures { (start : S) → S.has start (fields_kind named) serializer.old compound.old [] →
+    ensures { (start : S) → S.has start (fields_kind in_map) serializer.old compound.old [] →
         MatchResult result
-        (λ _. S.has start (fields_kind named) serializer.new compound.new
-        (field_parts named key.now (T.tree value.now)))
-        (λ e. S.has start (fields_kind named) serializer.new compound.new []
+        (λ _. S.has start (fields_kind in_map) serializer.new compound.new
+        (field_parts in_map key.now (T.tree value.now)))
+        (λ e. S.has start (fields_kind in_map) serializer.new compound.new []
         × ((rest : List (Option Tree)) →
         S.permits start
-        (tree_of_parts (fields_kind named) (field_parts named key.now (T.tree value.now) ++ rest))
+        (tree_of_parts (fields_kind in_map) (field_parts in_map key.now (T.tree value.now) ++ rest))
         (Err e) serializer.new)) }
 {
-    if named {
-        feed_entry(serializer, compound, &key, value)
+    if in_map {
+        serialize_map_entry(serializer, compound, &key, value)
     } else {
-        feed_part(serializer, compound, value)
+        serialize_part(serializer, compound, value)
     }
 }
 
 /// Replaces a single compound by an open map or list, and serializes its first field. On an error
 /// the single compound is unchanged.
-#[tactic(auto, unfolding(crate::specs::Structs::Stands))]
+#[tactic(auto, unfolding(crate::specs::Structs::HasDescribed))]
 #[inline(always)]
 pub(crate) fn open_body<S: Serializer, T: Serialize>(
     serializer: &mut S,
     compound: &mut S::Open,
-    named: bool,
+    in_map: bool,
     key: &'static str,
     value: &T,
 ) -> Result<(), S::Error>
     ensures { (start : S) → S.has start CompoundKind.Single serializer.old compound.old [] →
         MatchResult result
-        (λ _. Stands S.permits S.has start None (fields_kind named) serializer.new compound.new
-        (field_parts named key.now (T.tree value.now)))
+        (λ _. HasDescribed S.permits S.has start None (fields_kind in_map) serializer.new compound.new
+        (field_parts in_map key.now (T.tree value.now)))
         (λ e. S.has start CompoundKind.Single serializer.new compound.new [] × ((rest : List (Option Tree)) →
         S.permits start
-        (tree_of_parts (fields_kind named) (field_parts named key.now (T.tree value.now) ++ rest))
+        (tree_of_parts (fields_kind in_map) (field_parts in_map key.now (T.tree value.now) ++ rest))
         (Err e) serializer.new)) }
 {
     serializer.begin_part(compound);
-    let mut fields = serializer.begin_compound(fields_kind(named));
-    match feed_field(&mut *serializer, &mut fields, named, key, value) {
+    let mut fields = serializer.begin_compound(fields_kind(in_map));
+    match serialize_body_field(&mut *serializer, &mut fields, in_map, key, value) {
         Ok(()) => {
             *compound = fields;
             Ok(())
@@ -107,7 +107,7 @@ fn end_empty<S: Serializer>(
 }
 
 /// Ends a body, or the single compound if no field was serialized and no body is open.
-#[tactic(auto, unfolding(crate::specs::Structs::Stands))]
+#[tactic(auto, unfolding(crate::specs::Structs::HasDescribed))]
 #[inline(always)]
 pub(crate) fn end_fields<S: Serializer>(
     serializer: &mut S,

@@ -3,25 +3,25 @@
 ghost use Rattle.std.specs.Prelude.{◌≡◌, ◌∷◌, [], Option, Some, None, Err, MatchResult, IsErr};
 ghost use Rattle.amqp_ser.specs.Tree.{Tree};
 ghost use Rattle.amqp_ser.specs.Composites.{as_described, descriptor_of};
-ghost use Rattle.amqp_ser.specs.Structs.{Stands};
+ghost use Rattle.amqp_ser.specs.Structs.{HasDescribed};
 
-use super::feed::feed_part;
+use super::part::serialize_part;
 use crate::kind::CompoundKind;
 use crate::serialize::Serialize;
 use crate::serializer::Serializer;
 
 /// Serializes the descriptor of a single compound, before its value. On an error the compound is
 /// unchanged.
-#[tactic(auto, unfolding(crate::specs::Structs::Stands))]
+#[tactic(auto, unfolding(crate::specs::Structs::HasDescribed))]
 #[inline(always)]
-pub(crate) fn feed_descriptor<S: Serializer, T: Serialize>(
+pub(crate) fn serialize_descriptor<S: Serializer, T: Serialize>(
     serializer: &mut S,
     compound: &mut S::Open,
     value: &T,
 ) -> Result<(), S::Error>
-    ensures fed { (start : S) → S.has start CompoundKind.Single serializer.old compound.old [] →
+    ensures accepted { (start : S) → S.has start CompoundKind.Single serializer.old compound.old [] →
         MatchResult result
-        (λ _. Stands S.permits S.has start (Some (T.tree value.now)) CompoundKind.Single serializer.new
+        (λ _. HasDescribed S.permits S.has start (Some (T.tree value.now)) CompoundKind.Single serializer.new
         compound.new [])
         (λ e. S.has start CompoundKind.Single serializer.new compound.new [] × ((t : Option Tree) →
         S.permits start (as_described (descriptor_of (T.tree value.now)) t)
@@ -36,7 +36,7 @@ pub(crate) fn feed_descriptor<S: Serializer, T: Serialize>(
 
 /// Serializes the one value of a single compound. On an error the compound is unchanged.
 #[inline(always)]
-pub(crate) fn feed_single<S: Serializer, T: Serialize>(
+pub(crate) fn serialize_single<S: Serializer, T: Serialize>(
     serializer: &mut S,
     compound: &mut S::Open,
     value: &T,
@@ -47,7 +47,7 @@ pub(crate) fn feed_single<S: Serializer, T: Serialize>(
         (λ e. S.has start CompoundKind.Single serializer.new compound.new []
         × S.permits start (T.tree value.now) (Err e) serializer.new) }
 {
-    feed_part(serializer, compound, value)
+    serialize_part(serializer, compound, value)
 }
 
 /// Ends a single compound that has its one value.
@@ -64,7 +64,7 @@ pub(crate) fn end_single<S: Serializer>(
 
 /// Serializes a described value, like a struct named `DESCRIBED_BASIC` with a descriptor and one
 /// field.
-#[tactic(auto, unfolding(crate::specs::Structs::Stands))]
+#[tactic(auto, unfolding(crate::specs::Structs::HasDescribed))]
 #[inline(always)]
 pub(crate) fn serialize_described<S: Serializer, D: Serialize, T: Serialize>(
     serializer: &mut S,
@@ -76,7 +76,7 @@ pub(crate) fn serialize_described<S: Serializer, D: Serialize, T: Serialize>(
         serializer.new }
 {
     let mut compound = serializer.begin_compound(CompoundKind::Single);
-    feed_descriptor(&mut *serializer, &mut compound, descriptor)?;
+    serialize_descriptor(&mut *serializer, &mut compound, descriptor)?;
     serializer.begin_part(&mut compound);
     value.serialize(serializer)
 }

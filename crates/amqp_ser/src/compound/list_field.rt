@@ -3,10 +3,10 @@
 ghost use Rattle.std.specs.Prelude.{◌≡◌, ◌∷◌, [], List, Option, Some, None, Result, Err, MatchResult, true, false};
 ghost use Rattle.amqp_ser.specs.Tree.{Tree};
 ghost use Rattle.amqp_ser.specs.Compounds.{tree_of_parts};
-ghost use Rattle.amqp_ser.specs.Feeding.{Feeds};
-ghost use Rattle.amqp_ser.specs.Structs.{Stands};
+ghost use Rattle.amqp_ser.specs.CompoundSteps.{SerializesPart};
+ghost use Rattle.amqp_ser.specs.Structs.{HasDescribed};
 
-use super::feed::feed_part;
+use super::part::serialize_part;
 use crate::kind::CompoundKind;
 use crate::serialize::Serialize;
 use crate::serializer::Serializer;
@@ -65,9 +65,9 @@ fn close_first<S: Serializer>(
 
 /// Serializes one more field of a list. At the first field, the list replaces a single compound. On
 /// an error the compound that was open before the call is unchanged.
-#[tactic(auto, unfolding(crate::specs::Structs::Stands))]
+#[tactic(auto, unfolding(crate::specs::Structs::HasDescribed))]
 #[inline(always)]
-pub(crate) fn feed_list_field<S: Serializer, T: Serialize>(
+pub(crate) fn serialize_list_field<S: Serializer, T: Serialize>(
     serializer: &mut S,
     compound: &mut S::Open,
     opened: bool,
@@ -76,16 +76,16 @@ pub(crate) fn feed_list_field<S: Serializer, T: Serialize>(
     ensures first { opened ≡ false → (start : S) →
         S.has start CompoundKind.Single serializer.old compound.old [] →
         MatchResult result
-        (λ _. Stands S.permits S.has start None CompoundKind.List serializer.new compound.new
+        (λ _. HasDescribed S.permits S.has start None CompoundKind.List serializer.new compound.new
         (T.tree value.now ∷ []))
         (λ e. S.has start CompoundKind.Single serializer.new compound.new [] × ((rest : List (Option Tree)) →
         S.permits start (tree_of_parts CompoundKind.List (T.tree value.now ∷ rest)) (Err e) serializer.new)) }
     ensures next { opened ≡ true →
-        Feeds S.permits S.has CompoundKind.List (T.tree value.now) serializer.old compound.old result
+        SerializesPart S.permits S.has CompoundKind.List (T.tree value.now) serializer.old compound.old result
         serializer.new compound.new }
 {
     let single = open_list(serializer, compound, opened);
-    match feed_part(serializer, compound, value) {
+    match serialize_part(serializer, compound, value) {
         Ok(()) => Ok(()),
         Err(e) => match single {
             None => Err(e),

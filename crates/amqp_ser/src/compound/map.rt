@@ -5,9 +5,9 @@ ghost use mir.Syntax.{named};
 ghost use Rattle.std.specs.Borrow.{Lends, sem};
 ghost use Rattle.amqp_ser.specs.Tree.{Tree};
 ghost use Rattle.amqp_ser.specs.Compounds.{tree_of_parts, paired};
-ghost use Rattle.amqp_ser.specs.OpenCompounds.{map_reference, map_with_serializer, MapHas, has_key, FeedsMap, FeedsPair, RefusesInTurn};
+ghost use Rattle.amqp_ser.specs.OpenCompounds.{map_reference, map_with_serializer, MapHas, has_key, SerializesMapPart, SerializesPair, RefusesInTurn};
 
-use super::feed::{feed_entry, feed_part};
+use super::part::{serialize_map_entry, serialize_part};
 use crate::kind::CompoundKind;
 use crate::serialize::Serialize;
 use crate::serializer::Serializer;
@@ -93,7 +93,7 @@ impl<'a, S: Serializer> SerializeMap<'a, S> {
             (λ _. (has_key self.old ≡ false) × (has_key self.new ≡ true))
             (λ _. has_key self.new ≡ has_key self.old) }
         ensures step { has_key self.old ≡ false →
-            FeedsMap S.permits S.has (T.tree key.now) self.old result self.new }
+            SerializesMapPart S.permits S.has (T.tree key.now) self.old result self.new }
         ensures misuse_error { has_key self.old ≡ true →
             RefusesInTurn S.permits S.has self.old result self.new }
         ensures invalid { has_key self.old ≡ true → IfErr result S.is_misuse_error }
@@ -101,7 +101,7 @@ impl<'a, S: Serializer> SerializeMap<'a, S> {
         if self.pending {
             return Err(self.serializer.misuse_error(&mut self.compound));
         }
-        feed_part(&mut *self.serializer, &mut self.compound, key)?;
+        serialize_part(&mut *self.serializer, &mut self.compound, key)?;
         self.pending = true;
         Ok(())
     }
@@ -122,7 +122,7 @@ impl<'a, S: Serializer> SerializeMap<'a, S> {
             (λ _. (has_key self.old ≡ true) × (has_key self.new ≡ false))
             (λ _. has_key self.new ≡ has_key self.old) }
         ensures step { has_key self.old ≡ true →
-            FeedsMap S.permits S.has (T.tree value.now) self.old result self.new }
+            SerializesMapPart S.permits S.has (T.tree value.now) self.old result self.new }
         ensures misuse_error { has_key self.old ≡ false →
             RefusesInTurn S.permits S.has self.old result self.new }
         ensures invalid { has_key self.old ≡ false → IfErr result S.is_misuse_error }
@@ -130,7 +130,7 @@ impl<'a, S: Serializer> SerializeMap<'a, S> {
         if !self.pending {
             return Err(self.serializer.misuse_error(&mut self.compound));
         }
-        feed_part(&mut *self.serializer, &mut self.compound, value)?;
+        serialize_part(&mut *self.serializer, &mut self.compound, value)?;
         self.pending = false;
         Ok(())
     }
@@ -153,7 +153,7 @@ impl<'a, S: Serializer> SerializeMap<'a, S> {
             ≡ (map_reference self.old).ghost_name }
         ensures pending { has_key self.new ≡ has_key self.old }
         ensures step { has_key self.old ≡ false →
-            FeedsPair S.permits S.has (K.tree key.now) (V.tree value.now) self.old result self.new }
+            SerializesPair S.permits S.has (K.tree key.now) (V.tree value.now) self.old result self.new }
         ensures misuse_error { has_key self.old ≡ true →
             IsErr result × RefusesInTurn S.permits S.has self.old result self.new }
         ensures invalid { has_key self.old ≡ true → IfErr result S.is_misuse_error }
@@ -161,7 +161,7 @@ impl<'a, S: Serializer> SerializeMap<'a, S> {
         if self.pending {
             return Err(self.serializer.misuse_error(&mut self.compound));
         }
-        feed_entry(&mut *self.serializer, &mut self.compound, key, value)
+        serialize_map_entry(&mut *self.serializer, &mut self.compound, key, value)
     }
 
     /// Ends the map and returns the serializer's result for the tree of its entries.

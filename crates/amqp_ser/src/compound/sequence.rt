@@ -5,9 +5,9 @@ ghost use mir.Syntax.{named};
 ghost use Rattle.std.specs.Borrow.{Lends, sem};
 ghost use Rattle.amqp_ser.specs.Tree.{Tree};
 ghost use Rattle.amqp_ser.specs.Compounds.{tree_of_parts};
-ghost use Rattle.amqp_ser.specs.OpenCompounds.{list_reference, list_with_serializer, ListHas, FeedsList};
+ghost use Rattle.amqp_ser.specs.OpenCompounds.{list_reference, list_with_serializer, ListHas, SerializesListPart};
 
-use super::feed::feed_part;
+use super::part::serialize_part;
 use crate::kind::CompoundKind;
 use crate::serialize::Serialize;
 use crate::serializer::Serializer;
@@ -86,9 +86,9 @@ impl<'a, S: Serializer> SerializeSeq<'a, S> {
     pub fn serialize_element<T: Serialize>(&mut self, value: &T) -> Result<(), S::Error>
         ensures same { (list_reference self.new).ghost_name
             ≡ (list_reference self.old).ghost_name }
-        ensures step { FeedsList S.permits S.has (T.tree value.now) self.old result self.new }
+        ensures step { SerializesListPart S.permits S.has (T.tree value.now) self.old result self.new }
     {
-        feed_part(&mut *self.serializer, &mut self.compound, value)
+        serialize_part(&mut *self.serializer, &mut self.compound, value)
     }
 
     /// Ends the list and returns the serializer's result for the tree of its elements.

@@ -5,9 +5,9 @@ ghost use mir.Syntax.{named};
 ghost use Rattle.std.specs.Borrow.{Lends, sem};
 ghost use Rattle.amqp_ser.specs.Tree.{Tree};
 ghost use Rattle.amqp_ser.specs.Compounds.{tree_of_parts};
-ghost use Rattle.amqp_ser.specs.OpenCompounds.{struct_variant_reference, struct_variant_with_serializer, StructVariantHas, FeedsStructVariant};
+ghost use Rattle.amqp_ser.specs.OpenCompounds.{struct_variant_reference, struct_variant_with_serializer, StructVariantHas, SerializesStructVariantPart};
 
-use super::feed::feed_part;
+use super::part::serialize_part;
 use crate::kind::CompoundKind;
 use crate::serialize::Serialize;
 use crate::serializer::Serializer;
@@ -89,10 +89,10 @@ impl<'a, S: Serializer> SerializeStructVariant<'a, S> {
     ) -> Result<(), S::Error>
         ensures same { (struct_variant_reference self.new).ghost_name
             ≡ (struct_variant_reference self.old).ghost_name }
-        ensures step { FeedsStructVariant S.permits S.has (T.tree value.now) self.old result
+        ensures step { SerializesStructVariantPart S.permits S.has (T.tree value.now) self.old result
             self.new }
     {
-        feed_part(&mut *self.serializer, &mut self.compound, value)
+        serialize_part(&mut *self.serializer, &mut self.compound, value)
     }
 
     /// Ends the variant and returns the serializer's result for its tree.

@@ -6,9 +6,9 @@ ghost use Rattle.std.specs.Borrow.{Lends, sem};
 ghost use Rattle.amqp_ser.specs.Marked.{is_descriptor_name};
 ghost use Rattle.amqp_ser.specs.OpenStructs.{struct_reference, struct_with_serializer, form_of, has_descriptor, has_field, StructFieldStep, StructHas, EndsStruct};
 
-use super::any_field::feed_any;
+use super::any_field::serialize_any_field;
 use super::body::end_fields;
-use super::list_field::feed_list_field;
+use super::list_field::serialize_list_field;
 use crate::kind::CompoundKind;
 use crate::names::is_descriptor_name;
 use crate::serialize::Serialize;
@@ -56,7 +56,7 @@ impl<'a, S: Serializer> SerializeStruct<'a, S> {
 
     // A struct of any form begins as a single compound, because a descriptor may precede its
     // fields. The list or the map is opened with the first field.
-    #[tactic(auto, unfolding(crate::specs::Structs::Stands))]
+    #[tactic(auto, unfolding(crate::specs::Structs::HasDescribed))]
     #[inline(always)]
     pub(crate) fn new(serializer: &'a mut S, form: StructEncoding) -> SerializeStruct<'a, S>
         ensures opened { StructHas S.permits S.has serializer.old None CompoundKind.Single result [] }
@@ -154,7 +154,7 @@ impl<'a, S: Serializer> SerializeStruct<'a, S> {
     /// The ubyte 1 with the key `x` appends `5001`, and under the name `DESCRIBED_MAP`
     /// `a101785001`. As the first field, the ulong 1 with the key `DESCRIPTOR` puts `005301` before
     /// the fields.
-    #[tactic(auto, unfolding(crate::specs::Structs::Stands))]
+    #[tactic(auto, unfolding(crate::specs::Structs::HasDescribed))]
     #[inline(always)]
     pub fn serialize_field<T: Serialize>(
         &mut self,
@@ -178,7 +178,7 @@ impl<'a, S: Serializer> SerializeStruct<'a, S> {
         // share one function call.
         let descriptor = is_descriptor_name(key);
         if descriptor || !matches!(self.form, StructEncoding::List) {
-            return match feed_any(
+            return match serialize_any_field(
                 &mut *self.serializer,
                 &mut self.compound,
                 self.form,
@@ -198,7 +198,7 @@ impl<'a, S: Serializer> SerializeStruct<'a, S> {
                 Err(e) => Err(e),
             };
         }
-        match feed_list_field(
+        match serialize_list_field(
             &mut *self.serializer,
             &mut self.compound,
             self.opened,

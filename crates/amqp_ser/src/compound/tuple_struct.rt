@@ -3,12 +3,12 @@
 ghost use Rattle.std.specs.Prelude.{◌≡◌, [], IfOk, IfErr, None, ◌||◌, not, true, false};
 ghost use mir.Syntax.{named};
 ghost use Rattle.std.specs.Borrow.{Lends, sem};
-ghost use Rattle.amqp_ser.specs.StructFeeding.{TupleFieldStep};
+ghost use Rattle.amqp_ser.specs.StructSteps.{TupleFieldStep};
 ghost use Rattle.amqp_ser.specs.OpenStructs.{tuple_struct_reference, tuple_struct_with_serializer, is_single, lacks_descriptor, is_open, TupleStructFieldStep, TupleStructHas, EndsTupleStruct};
 
 use super::body::{end_fields, open_body};
-use super::described::{feed_descriptor, feed_single};
-use super::feed::feed_part;
+use super::described::{serialize_descriptor, serialize_single};
+use super::part::serialize_part;
 use crate::kind::CompoundKind;
 use crate::serialize::Serialize;
 use crate::serializer::Serializer;
@@ -16,9 +16,9 @@ use crate::struct_encoding::StructEncoding;
 
 /// Serializes a field, or the descriptor, of a tuple struct: of one whose body is a single field,
 /// that lacks its descriptor, or that has a field or is a list that has been open from the start.
-#[tactic(auto, unfolding(crate::specs::Structs::Stands))]
+#[tactic(auto, unfolding(crate::specs::Structs::HasDescribed))]
 #[inline(always)]
-pub(crate) fn feed_tuple_field<S: Serializer, T: Serialize>(
+pub(crate) fn serialize_tuple_field<S: Serializer, T: Serialize>(
     serializer: &mut S,
     compound: &mut S::Open,
     single: bool,
@@ -30,16 +30,16 @@ pub(crate) fn feed_tuple_field<S: Serializer, T: Serialize>(
         (T.tree value.now) serializer.old compound.old result serializer.new compound.new }
 {
     if wants_descriptor {
-        return feed_descriptor(serializer, compound, value);
+        return serialize_descriptor(serializer, compound, value);
     }
     if opened {
         if single {
             return Err(serializer.misuse_error(compound));
         }
-        return feed_part(serializer, compound, value);
+        return serialize_part(serializer, compound, value);
     }
     if single {
-        feed_single(serializer, compound, value)
+        serialize_single(serializer, compound, value)
     } else {
         open_body(serializer, compound, false, "", value)
     }
@@ -114,7 +114,7 @@ impl<'a, S: Serializer> SerializeTupleStruct<'a, S> {
     ///
     /// # Example
     /// The ulong 1 and `true` are `00530141`.
-    #[tactic(auto, unfolding(crate::specs::Structs::Stands))]
+    #[tactic(auto, unfolding(crate::specs::Structs::HasDescribed))]
     #[inline(always)]
     pub fn basic(serializer: &'a mut S) -> SerializeTupleStruct<'a, S>
         ensures opened { TupleStructHas S.permits S.has serializer.old None CompoundKind.Single result [] }
@@ -134,7 +134,7 @@ impl<'a, S: Serializer> SerializeTupleStruct<'a, S> {
     ///
     /// # Example
     /// The ulong 1 and `true` are `005301c0020141`.
-    #[tactic(auto, unfolding(crate::specs::Structs::Stands))]
+    #[tactic(auto, unfolding(crate::specs::Structs::HasDescribed))]
     #[inline(always)]
     pub fn list(serializer: &'a mut S, _len: usize) -> SerializeTupleStruct<'a, S>
         ensures opened { TupleStructHas S.permits S.has serializer.old None CompoundKind.Single result [] }
@@ -154,7 +154,7 @@ impl<'a, S: Serializer> SerializeTupleStruct<'a, S> {
     ///
     /// # Example
     /// The ubyte 1 and `true` are `c00402500141`.
-    #[tactic(auto, unfolding(crate::specs::Structs::Stands))]
+    #[tactic(auto, unfolding(crate::specs::Structs::HasDescribed))]
     #[inline(always)]
     pub fn list_fields(serializer: &'a mut S, _len: usize) -> SerializeTupleStruct<'a, S>
         ensures opened { TupleStructHas S.permits S.has serializer.old None CompoundKind.List result [] }
@@ -190,7 +190,7 @@ impl<'a, S: Serializer> SerializeTupleStruct<'a, S> {
     /// # Example
     /// The ubyte 1 appends `5001`. Under the name `DESCRIBED_LIST` a first ulong 1 puts `005301`
     /// before the fields.
-    #[tactic(auto, unfolding(crate::specs::Structs::Stands))]
+    #[tactic(auto, unfolding(crate::specs::Structs::HasDescribed))]
     #[inline(always)]
     pub fn serialize_field<T: Serialize>(&mut self, value: &T) -> Result<(), S::Error>
         ensures ok { IfOk result
@@ -205,7 +205,7 @@ impl<'a, S: Serializer> SerializeTupleStruct<'a, S> {
         ensures same { (tuple_struct_reference self.new).ghost_name
             ≡ (tuple_struct_reference self.old).ghost_name }
     {
-        feed_tuple_field(
+        serialize_tuple_field(
             &mut *self.serializer,
             &mut self.compound,
             self.single,

@@ -5,9 +5,9 @@ ghost use mir.Syntax.{named};
 ghost use Rattle.std.specs.Borrow.{Lends, sem};
 ghost use Rattle.amqp_ser.specs.Tree.{Tree};
 ghost use Rattle.amqp_ser.specs.Compounds.{tree_of_parts};
-ghost use Rattle.amqp_ser.specs.OpenCompounds.{variant_reference, variant_with_serializer, VariantHas, FeedsVariant};
+ghost use Rattle.amqp_ser.specs.OpenCompounds.{variant_reference, variant_with_serializer, VariantHas, SerializesVariantPart};
 
-use super::feed::feed_part;
+use super::part::serialize_part;
 use crate::kind::CompoundKind;
 use crate::serialize::Serialize;
 use crate::serializer::Serializer;
@@ -85,9 +85,9 @@ impl<'a, S: Serializer> SerializeTupleVariant<'a, S> {
     pub fn serialize_field<T: Serialize>(&mut self, value: &T) -> Result<(), S::Error>
         ensures same { (variant_reference self.new).ghost_name
             ≡ (variant_reference self.old).ghost_name }
-        ensures step { FeedsVariant S.permits S.has (T.tree value.now) self.old result self.new }
+        ensures step { SerializesVariantPart S.permits S.has (T.tree value.now) self.old result self.new }
     {
-        feed_part(&mut *self.serializer, &mut self.compound, value)
+        serialize_part(&mut *self.serializer, &mut self.compound, value)
     }
 
     /// Ends the variant and returns the serializer's result for its tree.

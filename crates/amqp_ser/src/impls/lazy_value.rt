@@ -11,7 +11,7 @@ use amqp_frame::LazyValue;
 impl Serialize for LazyValue {
     ghost tree = { λ v. Some (lazy v) };
 
-    #[tactic(auto, using(amqp_frame::proofs::Whole::frame_passes))]
+    #[tactic(auto, using(amqp_frame::proofs::Whole::encoded_value_passes))]
     #[inline(always)]
     fn serialize<S: Serializer>(&self, serializer: &mut S) -> Result<S::Ok, S::Error> {
         serializer.set_marker(Marker::Lazy);

@@ -143,28 +143,28 @@ pub fn trees_of_lazy_values()
 /// Fields are listed in order. A required field is present. An optional field is present if it is
 /// `Some`; otherwise it is absent, and its tree is null.
 pub fn meanings_of_fields<V: Serialize, R: Fields>()
-    ensures none { ⟦<() as Fields>⟧.named tt ≡ [] }
+    ensures none { ⟦<() as Fields>⟧.field_trees tt ≡ [] }
     ensures field { (f : Field V R) →
-        ⟦<Field<'static, V, R> as Fields>⟧.named f
-        ≡ (f.name.now, (true, V.tree f.value)) ∷ R.named f.rest }
+        ⟦<Field<'static, V, R> as Fields>⟧.field_trees f
+        ≡ (f.name.now, (true, V.tree f.value)) ∷ R.field_trees f.rest }
     ensures there { (f : OptionalField V R) (x : V) → f.value.now ≡ Some x →
-        ⟦<OptionalField<'static, V, R> as Fields>⟧.named f
-        ≡ (f.name.now, (true, V.tree x)) ∷ R.named f.rest }
+        ⟦<OptionalField<'static, V, R> as Fields>⟧.field_trees f
+        ≡ (f.name.now, (true, V.tree x)) ∷ R.field_trees f.rest }
     ensures absent { (f : OptionalField V R) → f.value.now ≡ None →
-        ⟦<OptionalField<'static, V, R> as Fields>⟧.named f
-        ≡ (f.name.now, (false, Some (scalar tree.null))) ∷ R.named f.rest }
+        ⟦<OptionalField<'static, V, R> as Fields>⟧.field_trees f
+        ≡ (f.name.now, (false, Some (scalar tree.null))) ∷ R.field_trees f.rest }
 {}
 
 /// Fields are a list up to the last present one, the variant of that list, or a map from the names
 /// of the present fields, with strings or symbols as keys.
 pub fn trees_of_fields<F: Fields>()
     ensures list { (l : ListOf F) → ⟦<ListOf<F> as Serialize>⟧.tree l
-        ≡ option_map tree.list (all_trees (up_to_last (values_of (F.named l.0)))) }
+        ≡ option_map tree.list (all_trees (up_to_last (values_of (F.field_trees l.0)))) }
     ensures variant { (v : VariantOf F) → ⟦<VariantOf<F> as Serialize>⟧.tree v
         ≡ option_map (λ ts. tree.variant v.0 (tree.list ts))
-        (all_trees (up_to_last (values_of (F.named v.1)))) }
+        (all_trees (up_to_last (values_of (F.field_trees v.1)))) }
     ensures strings { (m : MapOf F) → ⟦<MapOf<F> as Serialize>⟧.tree m
-        ≡ tree_of_parts Map (fields.named_parts string_key (F.named m.0)) }
+        ≡ tree_of_parts Map (fields.named_parts string_key (F.field_trees m.0)) }
     ensures symbols { (m : SymbolMapOf F) → ⟦<SymbolMapOf<F> as Serialize>⟧.tree m
-        ≡ tree_of_parts Map (fields.named_parts symbol_key (F.named m.0)) }
+        ≡ tree_of_parts Map (fields.named_parts symbol_key (F.field_trees m.0)) }
 {}

@@ -8,7 +8,7 @@ ghost use Rattle.amqp_ser.specs.Limits.{fits};
 ghost use Rattle.amqp_ser.specs.Ranged.{IsRangedDescriptor};
 ghost use Rattle.amqp_ser.specs.Scalars.{scalar_form};
 ghost use Rattle.amqp_ser.specs.Writable.{descriptor_fits};
-ghost use Rattle.amqp_size.specs.Width.{text_width, map_width, list_width, array_width};
+ghost use Rattle.amqp_size.specs.Width.{text_form_len, map_form_len, list_form_len, array_form_len};
 ghost use Rattle.amqp_value.specs.Measured.{IsLength};
 
 use crate::whole::ranges::read_text;
@@ -76,7 +76,7 @@ pub(crate) fn exact_size(bytes: &[u8]) -> usize
 #[inline(always)]
 pub(crate) fn text_size(n: usize) -> usize
     ensures fits { IsLength result → fits n ≡ true }
-    ensures len { IsLength result → result ≡ text_width n }
+    ensures len { IsLength result → result ≡ text_form_len n }
 {
     if n <= 254 {
         return n + 2;
@@ -89,7 +89,7 @@ pub(crate) fn text_size(n: usize) -> usize
 #[inline(never)]
 fn long_text_size(n: usize) -> usize
     ensures fits { IsLength result → fits n ≡ true }
-    ensures len { IsLength result → 254 < n → result ≡ text_width n }
+    ensures len { IsLength result → 254 < n → result ≡ text_form_len n }
 {
     if n <= MAX_LEN { n + 5 } else { NOT_MEASURED }
 }
@@ -124,7 +124,7 @@ pub(crate) fn descriptor_size(descriptor: &Descriptor) -> usize
 #[inline(always)]
 pub(crate) fn list_size(n: usize) -> usize
     ensures fits { IsLength result → fits n ≡ true }
-    ensures len { IsLength result → result ≡ list_width n }
+    ensures len { IsLength result → result ≡ list_form_len n }
 {
     if n == 0 { 1 } else { map_size(n) }
 }
@@ -133,7 +133,7 @@ pub(crate) fn list_size(n: usize) -> usize
 #[inline(always)]
 pub(crate) fn map_size(n: usize) -> usize
     ensures fits { IsLength result → fits n ≡ true }
-    ensures len { IsLength result → result ≡ map_width n }
+    ensures len { IsLength result → result ≡ map_form_len n }
 {
     if n <= 254 {
         return n + 3;
@@ -145,7 +145,7 @@ pub(crate) fn map_size(n: usize) -> usize
 #[inline(never)]
 fn long_body_size(n: usize) -> usize
     ensures fits { IsLength result → fits n ≡ true }
-    ensures len { IsLength result → 254 < n → result ≡ map_width n }
+    ensures len { IsLength result → 254 < n → result ≡ map_form_len n }
 {
     if n <= MAX_LEN { n + 9 } else { NOT_MEASURED }
 }
@@ -155,7 +155,7 @@ fn long_body_size(n: usize) -> usize
 pub(crate) fn array_size(n: usize, count: usize) -> usize
     ensures fits { IsLength result → fits n ≡ true }
     ensures few { IsLength result → count ≤ 4294967295 }
-    ensures len { IsLength result → result ≡ array_width n count }
+    ensures len { IsLength result → result ≡ array_form_len n count }
 {
     if n <= 254 && count <= 255 {
         n + 3

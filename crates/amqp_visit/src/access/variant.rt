@@ -2,7 +2,7 @@
 
 ghost use Rattle.std.specs.Prelude.{◌≡◌, Ok, IfErr, IsSomeAnd, None, codes, map};
 ghost use Rattle.amqp_data.specs.declared.error.Error.TheVariants.{InvalidValue};
-ghost use Rattle.amqp_de.specs.Fields.{There};
+ghost use Rattle.amqp_de.specs.Fields.{ReadsPresent};
 ghost use Rattle.amqp_value.specs.TreeOf.{tree_of};
 ghost use Rattle.amqp_visit.specs.Accepted.{IsList};
 ghost use Rattle.amqp_visit.specs.Events.{ByList, Visits};
@@ -150,7 +150,7 @@ impl VariantAccess {
     /// error other than out of memory is returned only if no value is read.
     pub fn newtype_variant_seed<S: Seed>(self, alloc: Global, seed: S) -> Result<S::Value, Error>
         requires { S.fits seed }
-        ensures read { Answers (There (S.reads seed) (variant_content self)) result }
+        ensures read { Answers (ReadsPresent (S.reads seed) (variant_content self)) result }
         ensures law { RestoresHeld (S.image seed) (S.restorable seed) (S.same seed)
             (variant_content self) result }
         ensures missing { variant_content self ≡ None →
@@ -171,7 +171,7 @@ impl VariantAccess {
     /// # Example
     /// For the ulong 13, as a `u64`, returns 13.
     pub fn newtype_variant<T: Deserialize>(self, alloc: Global) -> Result<T, Error>
-        ensures read { Answers (There T.reads (variant_content self)) result }
+        ensures read { Answers (ReadsPresent T.reads (variant_content self)) result }
         ensures law { RestoresHeld T.image T.restorable T.same (variant_content self) result }
         ensures missing { variant_content self ≡ None →
             IfErr result (λ e. IsMessage (codes "Expecting a value") e) }
@@ -185,8 +185,8 @@ impl VariantAccess {
     /// Returns the message `Expecting Value::List` if there is no value, and `InvalidValue` if the
     /// value is not a list; otherwise the visitor's error.
     pub fn tuple_variant<V: Visitor>(self, visitor: V) -> Result<V::Value, Error>
-        ensures visits { Visits (There (ByList (V.gives visitor)))
-            (There (ByList (V.represents visitor))) V.same (variant_content self) result }
+        ensures visits { Visits (ReadsPresent (ByList (V.gives visitor)))
+            (ReadsPresent (ByList (V.represents visitor))) V.same (variant_content self) result }
         ensures invalid { IsSomeAnd (variant_content self) (λ t. ¬ IsList t) →
             IfErr result (λ e. e ≡ InvalidValue) }
         ensures missing { variant_content self ≡ None →
@@ -204,8 +204,8 @@ impl VariantAccess {
     /// # Errors
     /// Returns the errors of `tuple_variant`.
     pub fn struct_variant<V: Visitor>(self, visitor: V) -> Result<V::Value, Error>
-        ensures visits { Visits (There (ByList (V.gives visitor)))
-            (There (ByList (V.represents visitor))) V.same (variant_content self) result }
+        ensures visits { Visits (ReadsPresent (ByList (V.gives visitor)))
+            (ReadsPresent (ByList (V.represents visitor))) V.same (variant_content self) result }
         ensures invalid { IsSomeAnd (variant_content self) (λ t. ¬ IsList t) →
             IfErr result (λ e. e ≡ InvalidValue) }
         ensures missing { variant_content self ≡ None →

@@ -3,7 +3,7 @@ use Rattle.std.proofs.lemmas.List.{take_all}
 use Rattle.std.proofs.lemmas.Str.{IsAscii-append}
 use Rattle.std.specs.Prelude.{IsAscii}
 use Rattle.amqp_data.specs.Hexadecimal.{hex}
-use Rattle.amqp_data.specs.Shown.{uuid_group}
+use Rattle.amqp_data.specs.Displayed.{uuid_group}
 use Rattle.amqp_data.proofs.uuid.uuid_text.Goals as goal
 
 four_appends : (a b c d e : List ℕ) → (((a ++ b) ++ c) ++ d) ++ e ≡ a ++ (b ++ (c ++ (d ++ e)))

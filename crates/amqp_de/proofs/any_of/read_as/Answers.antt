@@ -1,6 +1,6 @@
 use Rattle.std.proofs.Common.{rules, ◌≡◌, ◌∙◌, ap, sym, inl, inr}
-use Rattle.amqp_de.specs.Forms.{form_of}
-use Rattle.amqp_de.specs.declared.form.Form.TheVariants as form
+use Rattle.amqp_de.specs.SourceKinds.{source_kind_of}
+use Rattle.amqp_de.specs.declared.source_kind.SourceKind.TheVariants as form
 use Rattle.amqp_de.proofs.AnyForms.{list_form, map_form, fields_named, named_fields, entries_named, named_entries, named_form, list_image, map_image, no_image}
 use Rattle.amqp_de.proofs.Lists.{is_fields, is_entries}
 use Rattle.amqp_de.proofs.any_of.read_as.Goals as goal
@@ -25,21 +25,21 @@ returns-in-Err-clause-law g c known x p i w =
     let (ts, is) = list_form (g.S.Source.value c.args.source) (this ∙ known w) in
     elim (list_image (g.F.FieldSeeds.names c.args.fields) (g.F.FieldSeeds.images x) (g.S.Source.value c.args.source) ts is i) [ inl all ↦ c.in-Err.ensures.law x p all w | inr short ↦ c.in-Err.ensures.short x p short w ]
 
-pub returns-in-Ok-read_array-clause-read : goal.returns-in-Ok-read_array-clause-read
-returns-in-Ok-read_array-clause-read g c known = c.in-Ok-read_array.ensures.read
+pub returns-in-Ok-read_array_fields-clause-read : goal.returns-in-Ok-read_array_fields-clause-read
+returns-in-Ok-read_array_fields-clause-read g c known = c.in-Ok-read_array_fields.ensures.read
 
-pub returns-in-Err-read_array-clause-read : goal.returns-in-Err-read_array-clause-read
-returns-in-Err-read_array-clause-read g c known w =
+pub returns-in-Err-read_array_fields-clause-read : goal.returns-in-Err-read_array_fields-clause-read
+returns-in-Err-read_array_fields-clause-read g c known w =
     let this : form.Array ≡ c.args.form = search rules in
-    c.in-Err-read_array.ensures.err w (this ∙ known w)
+    c.in-Err-read_array_fields.ensures.err w (this ∙ known w)
 
-pub returns-in-Ok-read_array-clause-law : goal.returns-in-Ok-read_array-clause-law
-returns-in-Ok-read_array-clause-law g c known x p i =
-    let (ts, is) = c.in-Ok-read_array.ensures.array in
-    absurd (no_image (g.F.FieldSeeds.names c.args.fields) (g.F.FieldSeeds.images x) (g.S.Source.value c.args.source) form.Array (sym (ap form_of is)) (λ e. absurd cc) (λ e. absurd cc) i)
+pub returns-in-Ok-read_array_fields-clause-law : goal.returns-in-Ok-read_array_fields-clause-law
+returns-in-Ok-read_array_fields-clause-law g c known x p i =
+    let (ts, is) = c.in-Ok-read_array_fields.ensures.array in
+    absurd (no_image (g.F.FieldSeeds.names c.args.fields) (g.F.FieldSeeds.images x) (g.S.Source.value c.args.source) form.Array (sym (ap source_kind_of is)) (λ e. absurd cc) (λ e. absurd cc) i)
 
-pub returns-in-Err-read_array-clause-law : goal.returns-in-Err-read_array-clause-law
-returns-in-Err-read_array-clause-law g c known x p i w =
+pub returns-in-Err-read_array_fields-clause-law : goal.returns-in-Err-read_array_fields-clause-law
+returns-in-Err-read_array_fields-clause-law g c known x p i w =
     let this : form.Array ≡ c.args.form = search rules in
     absurd (no_image (g.F.FieldSeeds.names c.args.fields) (g.F.FieldSeeds.images x) (g.S.Source.value c.args.source) form.Array (this ∙ known w) (λ e. absurd cc) (λ e. absurd cc) i)
 

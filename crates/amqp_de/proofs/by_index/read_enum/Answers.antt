@@ -14,10 +14,10 @@ use Rattle.amqp_de.proofs.by_index.read_enum.Goals as goal
 whole : (v : Value) (m : OrderedMap Value Value) (es : List (Value × Value)) → v ≡ value.Map m → es ≡ entries_of m → tree_of v ≡ tree.map (pairs_of (map trees_of_pair es))
 whole v m es is same = ap tree_of is ∙ tree_of-Map m ∙ ap (λ fs. tree.map (pairs_trees fs)) (sym same)
 
-pub returns-in-Err-read_listed-clause-read : goal.returns-in-Err-read_listed-clause-read
-returns-in-Err-read_listed-clause-read g c w =
+pub returns-in-Err-read_index_and_value-clause-read : goal.returns-in-Err-read_index_and_value-clause-read
+returns-in-Err-read_index_and_value-clause-read g c w =
     let is : tree_of c.args.value ≡ tree.list (trees_of (map tree_of c.in-List.values.items)) = ap tree_of c.in-List.is ∙ tree_of-List c.in-List.values in
-    elim c.in-Err-read_listed.ensures [ inl m ↦ inl m | inr n ↦ inr (λ x h. n x (of_listed g.V.Variants.reads _ x _ is h)) ]
+    elim c.in-Err-read_index_and_value.ensures [ inl m ↦ inl m | inr n ↦ inr (λ x h. n x (of_listed g.V.Variants.reads _ x _ is h)) ]
 
 pub returns-in-Ok-read_keyed-clause-read : goal.returns-in-Ok-read_keyed-clause-read
 returns-in-Ok-read_keyed-clause-read g c =

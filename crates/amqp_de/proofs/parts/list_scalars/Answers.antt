@@ -2,7 +2,7 @@ use Rattle.std.proofs.Common.{rules, ◌≡◌, [], ◌∷◌, ◌++◌, suc, ap
 use Rattle.std.proofs.lemmas.Grind.{common_steps}
 use Rattle.amqp_ser.specs.Tree.{scalar}
 use Rattle.amqp_decode.specs.Parsed.{parse, parse_content}
-use Rattle.amqp_decode.proofs.Levels.{parse_frame}
+use Rattle.amqp_decode.proofs.Levels.{parse_value}
 use Rattle.amqp_de.proofs.Fillings.{filling_none, filling_more, filled}
 use Rattle.amqp_de.proofs.parts.list_scalars.Goals as goal
 
@@ -17,7 +17,7 @@ loop-read-preserved g c =
     let whole : c.loop-read.left.now ≡ c.in-Some.code.now ∷ c.in-Some.payload.now = search rules in
     rw p (λ depth. filling_more (λ t x. t ≡ scalar (g.K.Scalar.content x)) (parse (suc depth)) c.args.count c.args.bytes.now c.loop-read.read c.loop-read.left.now _ c.loop-read.items.items
     (scalar (g.K.Scalar.content c.in-Ok-from_bytes.read.0)) c.in-Ok-from_bytes.read.0 c.loop-read-test.true (c.loop-read.invariant depth)
-    (ap (parse (suc depth)) whole ∙ parse_frame depth _ ∙ c.in-Ok-from_bytes.ensures (parse depth) (parse_content depth)) refl)
+    (ap (parse (suc depth)) whole ∙ parse_value depth _ ∙ c.in-Ok-from_bytes.ensures (parse depth) (parse_content depth)) refl)
 
 pub returns-then-is_empty : goal.returns-then-is_empty
 returns-then-is_empty g c depth =

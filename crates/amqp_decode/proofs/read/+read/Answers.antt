@@ -5,9 +5,9 @@ use Rattle.amqp_value.specs.declared.value.Value.{the_lemmas}
 use Rattle.amqp_data.specs.declared.format_code.EncodingCodes.TheVariants as code
 use Rattle.amqp_decode.specs.Codes.{primitive_of}
 use Rattle.amqp_decode.specs.Scalars.{and_then}
-use Rattle.amqp_decode.specs.Parsed.{all, frame_in, gather, parse, parse_content, payload_in, parse_list, parse_map, parse_array, insert}
+use Rattle.amqp_decode.specs.Parsed.{all, value_in_bytes, gather, parse, parse_content, payload_in, parse_list, parse_map, parse_array, insert}
 use Rattle.amqp_decode.proofs.Steps.{item-zero, byte-ok, byte-err, item-ok, item-err, parse-zero, parse-at, parse-empty, values-and_then, insert-and_then, insert-no_key, insert-no_value, list-none, map-none, items-none, array-found, array-none}
-use Rattle.amqp_decode.specs.WithoutBytes.{IsExceeded, own_items, in_array, content_without_bytes, elements_without_bytes, frame_around, in_payload}
+use Rattle.amqp_decode.specs.WithoutBytes.{IsExceeded, own_items, in_array, content_without_bytes, elements_without_bytes, value_around, in_payload}
 use Rattle.amqp_decode.proofs.Counts.{count-at, content-count, found-count, byte-count, sum-step, sum-more, pair-step, key-more, value-more, remains-step, remains-exceeded, leaves-none, leaves-at, leaves-both, exceeded-items, exceeded-more, array-count, spends-at}
 use Rattle.amqp_decode.specs.Faults.{fault_around, fault_in, fault_in_item}
 use Rattle.amqp_decode.proofs.FaultLemmas.{fails-as, fails-at, fails-there, fault-zero, fault-at, fault-empty, item-fault-zero, item-fault, item-ends, byte-fault, values-step, values-here, values-end, pair-fault, key-fault, value-fault, even-map, array-fault}
@@ -62,7 +62,7 @@ read_value-returns-in_default-clause-err t c =
 pub read_value-returns-in_default-clause-limit : goal.read_value-returns-in_default-clause-limit
 read_value-returns-in_default-clause-limit t c =
     let bytes : c.args.bytes.now.now ≡ c.in-Some.code.now ∷ c.in-Some.rest.now = search rules in
-    spends-at _ _ _ _ _ (sym (count-at c.args.depth c.args.bytes.now.now (omega (arith, c.if-depth-eq0.false)) ∙ ap (frame_around (c.args.depth - 1)) bytes))
+    spends-at _ _ _ _ _ (sym (count-at c.args.depth c.args.bytes.now.now (omega (arith, c.if-depth-eq0.false)) ∙ ap (value_around (c.args.depth - 1)) bytes))
     c.read_after_code.ensures.limit
 
 pub read_after_code-returns-in-160-clause-ok : goal.read_after_code-returns-in-160-clause-ok
@@ -152,30 +152,30 @@ push_value-returns-in_ok-value-in-Some-clause-ok t c =
 pub push_value-returns-in_ok-value-in-Some-clause-limit : goal.push_value-returns-in_ok-value-in-Some-clause-limit
 push_value-returns-in_ok-value-in-Some-clause-limit t c =
     let bytes : c.args.bytes.now.now ≡ c.in-Some.code.now ∷ c.in-Some.rest.now = search rules in
-    leaves-at _ _ _ _ (sym (count-at c.args.depth c.args.bytes.now.now (omega (arith, c.if-depth-eq0.false)) ∙ ap (frame_around (c.args.depth - 1)) bytes))
+    leaves-at _ _ _ _ (sym (count-at c.args.depth c.args.bytes.now.now (omega (arith, c.if-depth-eq0.false)) ∙ ap (value_around (c.args.depth - 1)) bytes))
     c.in_ok-value-in-Some.ensures.limit
 
 pub push_value-returns-in_err-value-in-Some-clause-err : goal.push_value-returns-in_err-value-in-Some-clause-err
 push_value-returns-in_err-value-in-Some-clause-err t c =
     let bytes : c.args.bytes.now.now ≡ c.in-Some.code.now ∷ c.in-Some.rest.now = search rules in
-    let none : frame_in (parse (c.args.depth - 1)) (parse_content (c.args.depth - 1)) (c.in-Some.code.now ∷ c.in-Some.rest.now) ≡ None → parse c.args.depth c.args.bytes.now.now ≡ None =
+    let none : value_in_bytes (parse (c.args.depth - 1)) (parse_content (c.args.depth - 1)) (c.in-Some.code.now ∷ c.in-Some.rest.now) ≡ None → parse c.args.depth c.args.bytes.now.now ≡ None =
     λ h. rw (parse-at c.args.depth c.args.bytes.now.now (omega (arith, c.if-depth-eq0.false)), bytes) h in
     search (rules, none)
 
 pub push_value-returns-in_err-value-in-Some-clause-limit : goal.push_value-returns-in_err-value-in-Some-clause-limit
 push_value-returns-in_err-value-in-Some-clause-limit t c =
     let bytes : c.args.bytes.now.now ≡ c.in-Some.code.now ∷ c.in-Some.rest.now = search rules in
-    let same : frame_around (c.args.depth - 1) (c.in-Some.code.now ∷ c.in-Some.rest.now) ≡ elements_without_bytes c.args.depth c.args.bytes.now.now =
-    sym (count-at c.args.depth c.args.bytes.now.now (omega (arith, c.if-depth-eq0.false)) ∙ ap (frame_around (c.args.depth - 1)) bytes) in
-    let over : IsExceeded c.args.limit.now (frame_around (c.args.depth - 1) (c.in-Some.code.now ∷ c.in-Some.rest.now)) → IsExceeded c.args.limit.now (elements_without_bytes c.args.depth c.args.bytes.now.now) =
+    let same : value_around (c.args.depth - 1) (c.in-Some.code.now ∷ c.in-Some.rest.now) ≡ elements_without_bytes c.args.depth c.args.bytes.now.now =
+    sym (count-at c.args.depth c.args.bytes.now.now (omega (arith, c.if-depth-eq0.false)) ∙ ap (value_around (c.args.depth - 1)) bytes) in
+    let over : IsExceeded c.args.limit.now (value_around (c.args.depth - 1) (c.in-Some.code.now ∷ c.in-Some.rest.now)) → IsExceeded c.args.limit.now (elements_without_bytes c.args.depth c.args.bytes.now.now) =
     subst (IsExceeded c.args.limit.now) same in
     search (rules, over)
 
-pub read_list-loop-read-preserved : goal.read_list-loop-read-preserved
-read_list-loop-read-preserved t c =
+pub decode_list-loop-read-preserved : goal.decode_list-loop-read-preserved
+decode_list-loop-read-preserved t c =
     let p = c.in_ok-push_value.ensures.ok in
     let step = values-and_then (parse c.args.depth) c.args.count c.loop-read.read c.loop-read.rest.now c.push_value.new.bytes.now p.0 c.loop-read.list.items c.loop-read-test.true p.2 in
-    let pushed : c.push_value.new.list.items ≡ c.loop-read.list.items ++ p.0 ∷ [] = p.1 ∙ ap (λ s. s ++ p.0 ∷ []) c.make_room.ensures.items in
+    let pushed : c.push_value.new.list.items ≡ c.loop-read.list.items ++ p.0 ∷ [] = p.1 ∙ ap (λ s. s ++ p.0 ∷ []) c.reserve_element.ensures.items in
     record {
       values = rw pushed (step ∙ c.loop-read.invariant.values);
       limit = remains-step _ _ _ _ _ _ _ (sum-step (elements_without_bytes c.args.depth) (parse c.args.depth) c.args.count c.loop-read.read c.loop-read.rest.now c.push_value.new.bytes.now (tree_of p.0) c.loop-read-test.true p.2)
@@ -183,14 +183,14 @@ read_list-loop-read-preserved t c =
       fault = values-step (fault_in c.args.depth) (parse c.args.depth) c.args.count c.loop-read.read c.loop-read.rest.now c.push_value.new.bytes.now (tree_of p.0) c.loop-read-test.true p.2 ∙ c.loop-read.invariant.fault;
     }
 
-pub read_list-returns-in_err-push_value-clause-err : goal.read_list-returns-in_err-push_value-clause-err
-read_list-returns-in_err-push_value-clause-err t c =
+pub decode_list-returns-in_err-push_value-clause-err : goal.decode_list-returns-in_err-push_value-clause-err
+decode_list-returns-in_err-push_value-clause-err t c =
     let none : parse c.args.depth c.loop-read.rest.now ≡ None → parse_list (parse c.args.depth) (c.args.count, c.args.body.now) ≡ None =
     λ h. list-none (parse c.args.depth) c.args.count c.loop-read.read c.loop-read.rest.now c.args.body.now (map tree_of c.loop-read.list.items) c.loop-read-test.true c.loop-read.invariant.values h in
     search (rules, none)
 
-pub read_list-returns-in_err-push_value-clause-limit : goal.read_list-returns-in_err-push_value-clause-limit
-read_list-returns-in_err-push_value-clause-limit t c =
+pub decode_list-returns-in_err-push_value-clause-limit : goal.decode_list-returns-in_err-push_value-clause-limit
+decode_list-returns-in_err-push_value-clause-limit t c =
     let more = sum-more (elements_without_bytes c.args.depth) (parse c.args.depth) c.args.count c.loop-read.read c.loop-read.rest.now c.loop-read-test.true in
     let over = remains-exceeded _ _ _ _ _ more.0 more.1 c.loop-read.invariant.limit in
     search (rules, over)
@@ -255,38 +255,38 @@ read_items-returns-in_err-item-clause-limit t c =
     let over = remains-exceeded _ _ _ _ _ more.0 more.1 c.loop.invariant.limit in
     search (rules, over)
 
-pub read_array-returns-in_ok-items-in-Some-clause-ok : goal.read_array-returns-in_ok-items-in-Some-clause-ok
-read_array-returns-in_ok-items-in-Some-clause-ok t c =
+pub decode_array-returns-in_ok-items-in-Some-clause-ok : goal.decode_array-returns-in_ok-items-in-Some-clause-ok
+decode_array-returns-in_ok-items-in-Some-clause-ok t c =
     let body : c.args.body.now ≡ c.in-Some.constructor.now ∷ c.in-Some.payloads.now = search rules in
     let named : primitive_of c.in-Some.constructor.now ≡ Some c.in_ok-code-in-Some.code = search rules in
     let found = array-found (parse_content c.args.depth) c.in-Some.constructor.now c.in_ok-code-in-Some.code c.args.count c.args.body.now c.in-Some.payloads.now (map tree_of c.in_ok-items-in-Some.items.items) named body c.in_ok-items-in-Some.ensures.ok in
     search (rules, the_lemmas, found)
 
-pub read_array-returns-in_err-items-in-Some-clause-err : goal.read_array-returns-in_err-items-in-Some-clause-err
-read_array-returns-in_err-items-in-Some-clause-err t c =
+pub decode_array-returns-in_err-items-in-Some-clause-err : goal.decode_array-returns-in_err-items-in-Some-clause-err
+decode_array-returns-in_err-items-in-Some-clause-err t c =
     let body : c.args.body.now ≡ c.in-Some.constructor.now ∷ c.in-Some.payloads.now = search rules in
     let named : primitive_of c.in-Some.constructor.now ≡ Some c.in_ok-code-in-Some.code = search rules in
     let none : and_then (gather (payload_in (parse_content c.args.depth) c.in_ok-code-in-Some.code) c.args.count c.in-Some.payloads.now []) all ≡ None → parse_array (parse_content c.args.depth) (c.args.count, c.args.body.now) ≡ None =
     array-none (parse_content c.args.depth) c.in-Some.constructor.now c.in_ok-code-in-Some.code c.args.count c.args.body.now c.in-Some.payloads.now named body in
     search (rules, none)
 
-pub read_array-returns-in_ok-items-in-Some-clause-limit : goal.read_array-returns-in_ok-items-in-Some-clause-limit
-read_array-returns-in_ok-items-in-Some-clause-limit t c =
+pub decode_array-returns-in_ok-items-in-Some-clause-limit : goal.decode_array-returns-in_ok-items-in-Some-clause-limit
+decode_array-returns-in_ok-items-in-Some-clause-limit t c =
     let body : c.args.body.now ≡ c.in-Some.constructor.now ∷ c.in-Some.payloads.now = search rules in
     let named : primitive_of c.in-Some.constructor.now ≡ Some c.in_ok-code-in-Some.code = search rules in
     let all_of = array-count (content_without_bytes c.args.depth) (parse_content c.args.depth) c.in-Some.constructor.now c.in_ok-code-in-Some.code c.args.count c.args.body.now c.in-Some.payloads.now named body in
     leaves-at _ _ _ _ (sym all_of) (leaves-both _ _ _ _ _ c.in_ok-spend_items-in-Some.ensures.limit c.in_ok-items-in-Some.ensures.limit)
 
-pub read_array-returns-in_err-items-in-Some-clause-limit : goal.read_array-returns-in_err-items-in-Some-clause-limit
-read_array-returns-in_err-items-in-Some-clause-limit t c =
+pub decode_array-returns-in_err-items-in-Some-clause-limit : goal.decode_array-returns-in_err-items-in-Some-clause-limit
+decode_array-returns-in_err-items-in-Some-clause-limit t c =
     let body : c.args.body.now ≡ c.in-Some.constructor.now ∷ c.in-Some.payloads.now = search rules in
     let named : primitive_of c.in-Some.constructor.now ≡ Some c.in_ok-code-in-Some.code = search rules in
     let all_of = array-count (content_without_bytes c.args.depth) (parse_content c.args.depth) c.in-Some.constructor.now c.in_ok-code-in-Some.code c.args.count c.args.body.now c.in-Some.payloads.now named body in
     let over = exceeded-items _ _ _ _ _ all_of c.in_ok-spend_items-in-Some.ensures.limit in
     search (rules, over)
 
-pub read_array-returns-in_err-spend_items-in-Some-clause-limit : goal.read_array-returns-in_err-spend_items-in-Some-clause-limit
-read_array-returns-in_err-spend_items-in-Some-clause-limit t c =
+pub decode_array-returns-in_err-spend_items-in-Some-clause-limit : goal.decode_array-returns-in_err-spend_items-in-Some-clause-limit
+decode_array-returns-in_err-spend_items-in-Some-clause-limit t c =
     let body : c.args.body.now ≡ c.in-Some.constructor.now ∷ c.in-Some.payloads.now = search rules in
     let named : primitive_of c.in-Some.constructor.now ≡ Some c.in_ok-code-in-Some.code = search rules in
     let all_of = array-count (content_without_bytes c.args.depth) (parse_content c.args.depth) c.in-Some.constructor.now c.in_ok-code-in-Some.code c.args.count c.args.body.now c.in-Some.payloads.now named body in
@@ -331,8 +331,8 @@ push_value-returns-in_err-value-in-Some-clause-fault t c =
     let fails = fails-as _ _ _ (ap (fault_around (c.args.depth - 1)) (sym bytes) ∙ fault-at c.args.depth c.args.bytes.now.now (omega (arith, c.if-depth-eq0.false))) c.in_err-value-in-Some.ensures.fault in
     search (rules, fails)
 
-pub read_list-returns-in_err-push_value-clause-fault : goal.read_list-returns-in_err-push_value-clause-fault
-read_list-returns-in_err-push_value-clause-fault t c =
+pub decode_list-returns-in_err-push_value-clause-fault : goal.decode_list-returns-in_err-push_value-clause-fault
+decode_list-returns-in_err-push_value-clause-fault t c =
     let fails = fails-there _ _ _ (parse c.args.depth c.loop-read.rest.now ≡ None) c.in_err-push_value.ensures.err c.in_err-push_value.ensures.fault
     (λ h. values-here (fault_in c.args.depth) (parse c.args.depth) c.args.count c.loop-read.read c.loop-read.rest.now c.loop-read-test.true h ∙ c.loop-read.invariant.fault) in
     search (rules, fails)
@@ -343,8 +343,8 @@ read_items-returns-in_err-item-clause-fault t c =
     (λ h. values-here (fault_in_item c.args.depth c.args.code) (payload_in (parse_content c.args.depth) c.args.code) c.in_ok-left.left c.loop.counter c.loop.rest.now c.loop-test.true h ∙ c.loop.invariant.fault) in
     search (rules, fails)
 
-pub read_array-returns-in_err-items-in-Some-clause-fault : goal.read_array-returns-in_err-items-in-Some-clause-fault
-read_array-returns-in_err-items-in-Some-clause-fault t c =
+pub decode_array-returns-in_err-items-in-Some-clause-fault : goal.decode_array-returns-in_err-items-in-Some-clause-fault
+decode_array-returns-in_err-items-in-Some-clause-fault t c =
     let body : c.args.body.now ≡ c.in-Some.constructor.now ∷ c.in-Some.payloads.now = search rules in
     let named : primitive_of c.in-Some.constructor.now ≡ Some c.in_ok-code-in-Some.code = search rules in
     let fails = fails-as _ _ _ (array-fault (fault_in_item c.args.depth) (parse_content c.args.depth) c.in-Some.constructor.now c.in_ok-code-in-Some.code c.args.count c.args.body.now c.in-Some.payloads.now named body) c.in_err-items-in-Some.ensures.fault in

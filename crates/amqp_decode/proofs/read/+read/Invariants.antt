@@ -22,14 +22,14 @@ decreases-push_value l = 9 * l.depth
 abbrev pub decreases-read_items : goal.decreases-read_items
 decreases-read_items l = 9 * l.depth + 1
 
-abbrev pub decreases-read_list : goal.decreases-read_list
-decreases-read_list l = 9 * l.depth + 2
+abbrev pub decreases-decode_list : goal.decreases-decode_list
+decreases-decode_list l = 9 * l.depth + 2
 
 abbrev pub decreases-read_entries : goal.decreases-read_entries
 decreases-read_entries l = 9 * l.depth + 2
 
-abbrev pub decreases-read_array : goal.decreases-read_array
-decreases-read_array l = 9 * l.depth + 2
+abbrev pub decreases-decode_array : goal.decreases-decode_array
+decreases-decode_array l = 9 * l.depth + 2
 
 abbrev pub decreases-read_content : goal.decreases-read_content
 decreases-read_content l = 9 * l.depth + 3
@@ -45,8 +45,8 @@ decreases-read_after_code l = 9 * l.depth + 5
 
 -- The remaining bytes, after the elements so far, give the complete list, and contain the elements
 -- without bytes that remain to be taken from the limit.
-abbrev pub invariant-read_list-loop-read : goal.invariant-read_list-loop-read
-invariant-read_list-loop-read l = record {
+abbrev pub invariant-decode_list-loop-read : goal.invariant-decode_list-loop-read
+invariant-decode_list-loop-read l = record {
   values : gather (parse l.depth) (l.count - l.read) l.rest (map tree_of l.list.items) ≡ gather (parse l.depth) l.count l.body [];
   limit : Remains l.initial.limit l.limit (sum_of (elements_without_bytes l.depth) (parse l.depth) l.count l.body)
       (sum_of (elements_without_bytes l.depth) (parse l.depth) (l.count - l.read) l.rest);

@@ -4,12 +4,12 @@ use Rattle.amqp_frame.specs.Code.{category}
 use Rattle.amqp_ser.specs.Tree as tree
 use Rattle.amqp_ser.specs.Tree.{Tree}
 use Rattle.amqp_decode.specs.Codes.{primitive_of, shape_of_code}
-use Rattle.amqp_decode.specs.Parsed.{frame_in, parse, parse_content, payload_in}
-use Rattle.amqp_decode.specs.Places.{spot_around, spot_in, spot_in_item}
-use Rattle.amqp_decode.specs.SpotAt.{IsAt}
+use Rattle.amqp_decode.specs.Parsed.{value_in_bytes, parse, parse_content, payload_in}
+use Rattle.amqp_decode.specs.Places.{place_around, place_in, place_in_item}
+use Rattle.amqp_decode.specs.PlaceAt.{IsAt}
 use Rattle.amqp_decode.specs.WithoutBytes.{has_no_payload}
 use Rattle.amqp_decode.specs.declared.payload_shape.PayloadShape.TheVariants as shape
-use Rattle.amqp_decode.proofs.SkipLemmas.{bare-array, content-shorter, counted-shorter, described-ok, first-skips, first-spots, item-as, item-spot-at, item-spot-zero, items-found, items-spot, list-content, map-content, no_items, no_list-content, no_map-content, odd-shorter, on-err, on-ok, parse-code, parse-no_code, scalar-found, skips-filled, skips-left, skips-none, skips-step, spot-at, spot-code, spot-empty, spot-no_code, spot-zero, spots-end, spots-here, spots-step}
+use Rattle.amqp_decode.proofs.SkipLemmas.{bare-array, content-shorter, counted-shorter, described-ok, first-skips, first-places, item-as, item-from_end-at, item-from_end-zero, items-found, items-from_end, list-content, map-content, no_items, no_list-content, no_map-content, odd-shorter, on-err, on-ok, parse-code, parse-no_code, scalar-found, skips-filled, skips-left, skips-none, skips-step, from_end-at, from_end-code, from_end-empty, from_end-no_code, from_end-zero, places-end, places-here, places-step}
 use Rattle.amqp_decode.proofs.Steps.{item-zero, parse-at, parse-empty, parse-zero}
 use Rattle.amqp_decode.proofs.skip.+skip.Goals as goal
 
@@ -17,9 +17,9 @@ pub skip_value-returns-then-depth-eq0-clause-err : goal.skip_value-returns-then-
 skip_value-returns-then-depth-eq0-clause-err t c =
     parse-zero c.args.depth c.args.bytes.now c.if-depth-eq0.true
 
-pub skip_value-returns-then-depth-eq0-clause-spot : goal.skip_value-returns-then-depth-eq0-clause-spot
-skip_value-returns-then-depth-eq0-clause-spot t c =
-    let e = spot-zero c.args.depth c.args.after c.args.bytes.now c.if-depth-eq0.true in
+pub skip_value-returns-then-depth-eq0-clause-from_end : goal.skip_value-returns-then-depth-eq0-clause-from_end
+skip_value-returns-then-depth-eq0-clause-from_end t c =
+    let e = from_end-zero c.args.depth c.args.after c.args.bytes.now c.if-depth-eq0.true in
     let left = ap (λ q. q.0) e in
     let level = ap (λ q. q.1) e in
     search (rules, left, level)
@@ -28,9 +28,9 @@ pub skip_value-returns-in_default-clause-err : goal.skip_value-returns-in_defaul
 skip_value-returns-in_default-clause-err t c =
     parse-empty c.args.depth c.args.bytes.now (omega (arith, c.if-depth-eq0.false)) (search rules)
 
-pub skip_value-returns-in_default-clause-spot : goal.skip_value-returns-in_default-clause-spot
-skip_value-returns-in_default-clause-spot t c =
-    let e = spot-empty c.args.depth c.args.after c.args.bytes.now (omega (arith, c.if-depth-eq0.false)) (search rules) in
+pub skip_value-returns-in_default-clause-from_end : goal.skip_value-returns-in_default-clause-from_end
+skip_value-returns-in_default-clause-from_end t c =
+    let e = from_end-empty c.args.depth c.args.after c.args.bytes.now (omega (arith, c.if-depth-eq0.false)) (search rules) in
     let left = ap (λ q. q.0) e in
     let level = ap (λ q. q.1) e in
     search (rules, left, level)
@@ -39,22 +39,22 @@ pub skip_value-returns-then-byte-eq0-clause-ok : goal.skip_value-returns-then-by
 skip_value-returns-then-byte-eq0-clause-ok t c =
     let bytes : c.args.bytes.now ≡ c.in-Some.byte.now ∷ c.in-Some.rest.now = search rules in
     let first : c.args.bytes.now ≡ 0 ∷ c.in-Some.rest.now = bytes ∙ ap (λ b. b ∷ c.in-Some.rest.now) c.if-byte-eq0.true in
-    let same : frame_in (parse (c.args.depth - 1)) (parse_content (c.args.depth - 1)) (0 ∷ c.in-Some.rest.now) ≡ parse c.args.depth c.args.bytes.now = sym (parse-at c.args.depth c.args.bytes.now (omega (arith, c.if-depth-eq0.false)) ∙ ap (frame_in (parse (c.args.depth - 1)) (parse_content (c.args.depth - 1))) first) in
+    let same : value_in_bytes (parse (c.args.depth - 1)) (parse_content (c.args.depth - 1)) (0 ∷ c.in-Some.rest.now) ≡ parse c.args.depth c.args.bytes.now = sym (parse-at c.args.depth c.args.bytes.now (omega (arith, c.if-depth-eq0.false)) ∙ ap (value_in_bytes (parse (c.args.depth - 1)) (parse_content (c.args.depth - 1))) first) in
     subst (λ z. IfOk c.skip_described.result (λ rest. (t : Tree) × (z ≡ Some (t, rest.now)))) same c.skip_described.ensures.ok
 
 pub skip_value-returns-then-byte-eq0-clause-err : goal.skip_value-returns-then-byte-eq0-clause-err
 skip_value-returns-then-byte-eq0-clause-err t c =
     let bytes : c.args.bytes.now ≡ c.in-Some.byte.now ∷ c.in-Some.rest.now = search rules in
     let first : c.args.bytes.now ≡ 0 ∷ c.in-Some.rest.now = bytes ∙ ap (λ b. b ∷ c.in-Some.rest.now) c.if-byte-eq0.true in
-    let same : frame_in (parse (c.args.depth - 1)) (parse_content (c.args.depth - 1)) (0 ∷ c.in-Some.rest.now) ≡ parse c.args.depth c.args.bytes.now = sym (parse-at c.args.depth c.args.bytes.now (omega (arith, c.if-depth-eq0.false)) ∙ ap (frame_in (parse (c.args.depth - 1)) (parse_content (c.args.depth - 1))) first) in
+    let same : value_in_bytes (parse (c.args.depth - 1)) (parse_content (c.args.depth - 1)) (0 ∷ c.in-Some.rest.now) ≡ parse c.args.depth c.args.bytes.now = sym (parse-at c.args.depth c.args.bytes.now (omega (arith, c.if-depth-eq0.false)) ∙ ap (value_in_bytes (parse (c.args.depth - 1)) (parse_content (c.args.depth - 1))) first) in
     subst (λ z. OnErr c.skip_described.result (z ≡ None)) same c.skip_described.ensures.err
 
-pub skip_value-returns-then-byte-eq0-clause-spot : goal.skip_value-returns-then-byte-eq0-clause-spot
-skip_value-returns-then-byte-eq0-clause-spot t c =
+pub skip_value-returns-then-byte-eq0-clause-from_end : goal.skip_value-returns-then-byte-eq0-clause-from_end
+skip_value-returns-then-byte-eq0-clause-from_end t c =
     let bytes : c.args.bytes.now ≡ c.in-Some.byte.now ∷ c.in-Some.rest.now = search rules in
     let first : c.args.bytes.now ≡ 0 ∷ c.in-Some.rest.now = bytes ∙ ap (λ b. b ∷ c.in-Some.rest.now) c.if-byte-eq0.true in
-    let same : spot_around (c.args.depth - 1) c.args.after (0 ∷ c.in-Some.rest.now) ≡ spot_in c.args.depth c.args.after c.args.bytes.now = ap (spot_around (c.args.depth - 1) c.args.after) (sym first) ∙ spot-at c.args.depth c.args.after c.args.bytes.now (omega (arith, c.if-depth-eq0.false)) in
-    subst (λ z. IfErr c.skip_described.result (λ p. IsAt p z)) same c.skip_described.ensures.spot
+    let same : place_around (c.args.depth - 1) c.args.after (0 ∷ c.in-Some.rest.now) ≡ place_in c.args.depth c.args.after c.args.bytes.now = ap (place_around (c.args.depth - 1) c.args.after) (sym first) ∙ from_end-at c.args.depth c.args.after c.args.bytes.now (omega (arith, c.if-depth-eq0.false)) in
+    subst (λ z. IfErr c.skip_described.result (λ p. IsAt p z)) same c.skip_described.ensures.from_end
 
 pub skip_value-returns-in_default-primitive_code-clause-err : goal.skip_value-returns-in_default-primitive_code-clause-err
 skip_value-returns-in_default-primitive_code-clause-err t c =
@@ -62,11 +62,11 @@ skip_value-returns-in_default-primitive_code-clause-err t c =
     let none : primitive_of c.in-Some.byte.now ≡ None = search rules in
     ap (parse c.args.depth) bytes ∙ parse-no_code c.args.depth c.args.after c.in-Some.byte.now c.in-Some.rest.now (omega (arith, c.if-depth-eq0.false)) c.if-byte-eq0.false none
 
-pub skip_value-returns-in_default-primitive_code-clause-spot : goal.skip_value-returns-in_default-primitive_code-clause-spot
-skip_value-returns-in_default-primitive_code-clause-spot t c =
+pub skip_value-returns-in_default-primitive_code-clause-from_end : goal.skip_value-returns-in_default-primitive_code-clause-from_end
+skip_value-returns-in_default-primitive_code-clause-from_end t c =
     let bytes : c.args.bytes.now ≡ c.in-Some.byte.now ∷ c.in-Some.rest.now = search rules in
     let none : primitive_of c.in-Some.byte.now ≡ None = search rules in
-    let e = spot-no_code c.args.depth c.args.after c.in-Some.byte.now c.in-Some.rest.now (omega (arith, c.if-depth-eq0.false)) c.if-byte-eq0.false none ∙ ap (spot_in c.args.depth c.args.after) (sym bytes) in
+    let e = from_end-no_code c.args.depth c.args.after c.in-Some.byte.now c.in-Some.rest.now (omega (arith, c.if-depth-eq0.false)) c.if-byte-eq0.false none ∙ ap (place_in c.args.depth c.args.after) (sym bytes) in
     let left = ap (λ q. q.0) e in
     let level = ap (λ q. q.1) e in
     search (rules, left, level, ap length bytes)
@@ -83,11 +83,11 @@ skip_value-returns-clause-err t c =
     let same = parse-code c.args.depth c.args.after c.in-Some.byte.now c.in-Some.rest.now (omega (arith, c.if-depth-eq0.false)) c.if-byte-eq0.false c.in-Ok.code c.in-Ok.ensures.ok ∙ ap (parse c.args.depth) (sym bytes) in
     subst (λ z. OnErr c.skip_payload.result (z ≡ None)) same c.skip_payload.ensures.err
 
-pub skip_value-returns-clause-spot : goal.skip_value-returns-clause-spot
-skip_value-returns-clause-spot t c =
+pub skip_value-returns-clause-from_end : goal.skip_value-returns-clause-from_end
+skip_value-returns-clause-from_end t c =
     let bytes : c.args.bytes.now ≡ c.in-Some.byte.now ∷ c.in-Some.rest.now = search rules in
-    let same = spot-code c.args.depth c.args.after c.in-Some.byte.now c.in-Some.rest.now (omega (arith, c.if-depth-eq0.false)) c.if-byte-eq0.false c.in-Ok.code c.in-Ok.ensures.ok ∙ ap (spot_in c.args.depth c.args.after) (sym bytes) in
-    subst (λ z. IfErr c.skip_payload.result (λ p. IsAt p z)) same c.skip_payload.ensures.spot
+    let same = from_end-code c.args.depth c.args.after c.in-Some.byte.now c.in-Some.rest.now (omega (arith, c.if-depth-eq0.false)) c.if-byte-eq0.false c.in-Ok.code c.in-Ok.ensures.ok ∙ ap (place_in c.args.depth c.args.after) (sym bytes) in
+    subst (λ z. IfErr c.skip_payload.result (λ p. IsAt p z)) same c.skip_payload.ensures.from_end
 
 pub skip_described-returns-clause-ok : goal.skip_described-returns-clause-ok
 skip_described-returns-clause-ok t c =
@@ -97,9 +97,9 @@ pub skip_item-returns-then-depth-eq0-clause-err : goal.skip_item-returns-then-de
 skip_item-returns-then-depth-eq0-clause-err t c =
     item-zero c.args.depth c.args.code c.args.bytes.now c.if-depth-eq0.true
 
-pub skip_item-returns-then-depth-eq0-clause-spot : goal.skip_item-returns-then-depth-eq0-clause-spot
-skip_item-returns-then-depth-eq0-clause-spot t c =
-    let e = item-spot-zero c.args.depth c.args.code c.args.after c.args.bytes.now c.if-depth-eq0.true in
+pub skip_item-returns-then-depth-eq0-clause-from_end : goal.skip_item-returns-then-depth-eq0-clause-from_end
+skip_item-returns-then-depth-eq0-clause-from_end t c =
+    let e = item-from_end-zero c.args.depth c.args.code c.args.after c.args.bytes.now c.if-depth-eq0.true in
     let left = ap (λ q. q.0) e in
     let level = ap (λ q. q.1) e in
     search (rules, left, level)
@@ -112,9 +112,9 @@ pub skip_item-returns-clause-err : goal.skip_item-returns-clause-err
 skip_item-returns-clause-err t c =
     subst (λ z. OnErr c.skip_payload.result (z ≡ None)) (item-as c.args.depth c.args.code c.args.bytes.now (omega (arith, c.if-depth-eq0.false))) c.skip_payload.ensures.err
 
-pub skip_item-returns-clause-spot : goal.skip_item-returns-clause-spot
-skip_item-returns-clause-spot t c =
-    subst (λ z. IfErr c.skip_payload.result (λ p. IsAt p z)) (item-spot-at c.args.depth c.args.code c.args.after c.args.bytes.now (omega (arith, c.if-depth-eq0.false))) c.skip_payload.ensures.spot
+pub skip_item-returns-clause-from_end : goal.skip_item-returns-clause-from_end
+skip_item-returns-clause-from_end t c =
+    subst (λ z. IfErr c.skip_payload.result (λ p. IsAt p z)) (item-from_end-at c.args.depth c.args.code c.args.after c.args.bytes.now (omega (arith, c.if-depth-eq0.false))) c.skip_payload.ensures.from_end
 
 pub skip_payload-overflow_add-rest : goal.skip_payload-overflow_add-rest
 skip_payload-overflow_add-rest t c =
@@ -208,14 +208,14 @@ check_array-returns-in-Ok-clause-err t c =
     let same = first-skips c.args.depth c.in-Ok.code c.in-Some.payloads.now none c.args.count c.min.result one in
     on-err c.check_items.result (λ left. no_items c.args.depth c.args.count c.args.body.now c.in-Some.constructor.now c.in-Some.payloads.now body c.in-Ok.code c.in-Ok.ensures.ok (λ filled. left (same ∙ filled))) c.check_items.ensures.err
 
-pub check_array-returns-in-Ok-clause-spot : goal.check_array-returns-in-Ok-clause-spot
-check_array-returns-in-Ok-clause-spot t c =
+pub check_array-returns-in-Ok-clause-from_end : goal.check_array-returns-in-Ok-clause-from_end
+check_array-returns-in-Ok-clause-from_end t c =
     let body : c.args.body.now ≡ c.in-Some.constructor.now ∷ c.in-Some.payloads.now = search rules in
     let none : has_no_payload c.in-Ok.code ≡ true = search rules in
     let one : c.min.result ≡ min c.args.count 1 = omega arith in
-    let same = first-spots c.args.depth c.in-Ok.code c.in-Some.payloads.now none (spot_in_item c.args.depth c.in-Ok.code) c.args.depth c.args.after c.args.count c.min.result one
-    ∙ items-spot c.args.depth c.args.count c.args.body.now c.in-Some.constructor.now c.in-Some.payloads.now body c.in-Ok.code c.in-Ok.ensures.ok c.args.after in
-    subst (λ z. IfErr c.check_items.result (λ p. IsAt p z)) same c.check_items.ensures.spot
+    let same = first-places c.args.depth c.in-Ok.code c.in-Some.payloads.now none (place_in_item c.args.depth c.in-Ok.code) c.args.depth c.args.after c.args.count c.min.result one
+    ∙ items-from_end c.args.depth c.args.count c.args.body.now c.in-Some.constructor.now c.in-Some.payloads.now body c.in-Ok.code c.in-Ok.ensures.ok c.args.after in
+    subst (λ z. IfErr c.check_items.result (λ p. IsAt p z)) same c.check_items.ensures.from_end
 
 pub check_array-returns-in-Ok-2-clause-ok : goal.check_array-returns-in-Ok-2-clause-ok
 check_array-returns-in-Ok-2-clause-ok t c =
@@ -237,7 +237,7 @@ check_values-loop-preserved t c =
     let read = c.in_ok-later.ensures.ok in
     record {
       kept = skips-step (parse c.args.depth) c.args.count c.loop.counter c.loop.rest.now c.in_ok-later.later.now read.0 c.loop-test.true read.1 ∙ c.loop.invariant.kept;
-      spot = spots-step (spot_in c.args.depth) (parse c.args.depth) c.args.depth c.args.after c.args.count c.loop.counter c.loop.rest.now c.in_ok-later.later.now read.0 c.loop-test.true read.1 ∙ c.loop.invariant.spot;
+      from_end = places-step (place_in c.args.depth) (parse c.args.depth) c.args.depth c.args.after c.args.count c.loop.counter c.loop.rest.now c.in_ok-later.later.now read.0 c.loop-test.true read.1 ∙ c.loop.invariant.from_end;
       shorter = omega (arith, c.in_ok-later.ensures.shorter, c.loop.invariant.shorter);
     }
 
@@ -246,9 +246,9 @@ check_values-returns-in_err-later-clause-err t c =
     let left = skips-none (parse c.args.depth) c.args.count c.loop.counter c.loop.rest.now c.args.body.now c.loop-test.true c.loop.invariant.kept c.in_err-later.ensures.err in
     search (rules, left)
 
-pub check_values-returns-in_err-later-clause-spot : goal.check_values-returns-in_err-later-clause-spot
-check_values-returns-in_err-later-clause-spot t c =
-    let e = spots-here (spot_in c.args.depth) (parse c.args.depth) c.args.depth c.args.after c.args.count c.loop.counter c.loop.rest.now c.loop-test.true c.in_err-later.ensures.err ∙ c.loop.invariant.spot in
+pub check_values-returns-in_err-later-clause-from_end : goal.check_values-returns-in_err-later-clause-from_end
+check_values-returns-in_err-later-clause-from_end t c =
+    let e = places-here (place_in c.args.depth) (parse c.args.depth) c.args.depth c.args.after c.args.count c.loop.counter c.loop.rest.now c.loop-test.true c.in_err-later.ensures.err ∙ c.loop.invariant.from_end in
     let left = ap (λ q. q.0) e in
     let level = ap (λ q. q.1) e in
     search (rules, left, level)
@@ -265,9 +265,9 @@ pub check_values-returns-else-is_empty-clause-err : goal.check_values-returns-el
 check_values-returns-else-is_empty-clause-err t c =
     skips-left (parse c.args.depth) c.args.count c.loop.counter c.loop.rest.now c.args.body.now (omega (arith, c.loop-test.false)) c.loop.invariant.kept (search rules)
 
-pub check_values-returns-else-is_empty-clause-spot : goal.check_values-returns-else-is_empty-clause-spot
-check_values-returns-else-is_empty-clause-spot t c =
-    let e = spots-end (spot_in c.args.depth) (parse c.args.depth) c.args.depth c.args.after c.args.count c.loop.counter c.loop.rest.now (omega (arith, c.loop-test.false)) ∙ c.loop.invariant.spot in
+pub check_values-returns-else-is_empty-clause-from_end : goal.check_values-returns-else-is_empty-clause-from_end
+check_values-returns-else-is_empty-clause-from_end t c =
+    let e = places-end (place_in c.args.depth) (parse c.args.depth) c.args.depth c.args.after c.args.count c.loop.counter c.loop.rest.now (omega (arith, c.loop-test.false)) ∙ c.loop.invariant.from_end in
     let left = ap (λ q. q.0) e in
     let level = ap (λ q. q.1) e in
     search (rules, left, level)
@@ -282,7 +282,7 @@ check_items-loop-preserved t c =
     let read = c.in_ok-later.ensures.ok in
     record {
       kept = skips-step (payload_in (parse_content c.args.depth) c.args.code) c.args.count c.loop.counter c.loop.rest.now c.in_ok-later.later.now read.0 c.loop-test.true read.1 ∙ c.loop.invariant.kept;
-      spot = spots-step (spot_in_item c.args.depth c.args.code) (payload_in (parse_content c.args.depth) c.args.code) c.args.depth c.args.after c.args.count c.loop.counter c.loop.rest.now c.in_ok-later.later.now read.0 c.loop-test.true read.1 ∙ c.loop.invariant.spot;
+      from_end = places-step (place_in_item c.args.depth c.args.code) (payload_in (parse_content c.args.depth) c.args.code) c.args.depth c.args.after c.args.count c.loop.counter c.loop.rest.now c.in_ok-later.later.now read.0 c.loop-test.true read.1 ∙ c.loop.invariant.from_end;
       shorter = omega (arith, c.in_ok-later.ensures.shorter, c.loop.invariant.shorter);
     }
 
@@ -291,9 +291,9 @@ check_items-returns-in_err-later-clause-err t c =
     let left = skips-none (payload_in (parse_content c.args.depth) c.args.code) c.args.count c.loop.counter c.loop.rest.now c.args.payloads.now c.loop-test.true c.loop.invariant.kept c.in_err-later.ensures.err in
     search (rules, left)
 
-pub check_items-returns-in_err-later-clause-spot : goal.check_items-returns-in_err-later-clause-spot
-check_items-returns-in_err-later-clause-spot t c =
-    let e = spots-here (spot_in_item c.args.depth c.args.code) (payload_in (parse_content c.args.depth) c.args.code) c.args.depth c.args.after c.args.count c.loop.counter c.loop.rest.now c.loop-test.true c.in_err-later.ensures.err ∙ c.loop.invariant.spot in
+pub check_items-returns-in_err-later-clause-from_end : goal.check_items-returns-in_err-later-clause-from_end
+check_items-returns-in_err-later-clause-from_end t c =
+    let e = places-here (place_in_item c.args.depth c.args.code) (payload_in (parse_content c.args.depth) c.args.code) c.args.depth c.args.after c.args.count c.loop.counter c.loop.rest.now c.loop-test.true c.in_err-later.ensures.err ∙ c.loop.invariant.from_end in
     let left = ap (λ q. q.0) e in
     let level = ap (λ q. q.1) e in
     search (rules, left, level)
@@ -310,9 +310,9 @@ pub check_items-returns-else-is_empty-clause-err : goal.check_items-returns-else
 check_items-returns-else-is_empty-clause-err t c =
     skips-left (payload_in (parse_content c.args.depth) c.args.code) c.args.count c.loop.counter c.loop.rest.now c.args.payloads.now (omega (arith, c.loop-test.false)) c.loop.invariant.kept (search rules)
 
-pub check_items-returns-else-is_empty-clause-spot : goal.check_items-returns-else-is_empty-clause-spot
-check_items-returns-else-is_empty-clause-spot t c =
-    let e = spots-end (spot_in_item c.args.depth c.args.code) (payload_in (parse_content c.args.depth) c.args.code) c.args.depth c.args.after c.args.count c.loop.counter c.loop.rest.now (omega (arith, c.loop-test.false)) ∙ c.loop.invariant.spot in
+pub check_items-returns-else-is_empty-clause-from_end : goal.check_items-returns-else-is_empty-clause-from_end
+check_items-returns-else-is_empty-clause-from_end t c =
+    let e = places-end (place_in_item c.args.depth c.args.code) (payload_in (parse_content c.args.depth) c.args.code) c.args.depth c.args.after c.args.count c.loop.counter c.loop.rest.now (omega (arith, c.loop-test.false)) ∙ c.loop.invariant.from_end in
     let left = ap (λ q. q.0) e in
     let level = ap (λ q. q.1) e in
     search (rules, left, level)

@@ -1,6 +1,6 @@
 use Rattle.std.proofs.Common.{◌≡◌, ◌≤◌, ◌+◌, ◌-◌, ◌*◌, length}
 use Rattle.amqp_decode.specs.Parsed.{parse, parse_content, payload_in}
-use Rattle.amqp_decode.specs.Places.{skips, spot_in, spot_in_item, spot_of_values}
+use Rattle.amqp_decode.specs.Places.{skips, place_in, place_in_item, place_of_values}
 use Rattle.amqp_decode.proofs.skip.+skip.Given as goal
 
 -- The values in a compound have a smaller depth.
@@ -32,15 +32,15 @@ decreases-check_items l = 9 * l.depth + 7
 abbrev pub invariant-check_values-loop : goal.invariant-check_values-loop
 invariant-check_values-loop l = record {
   kept : skips (parse l.depth) (l.count - l.counter) l.rest ≡ skips (parse l.depth) l.count l.body;
-  spot : spot_of_values (spot_in l.depth) (parse l.depth) l.depth (l.count - l.counter) l.after l.rest
-      ≡ spot_of_values (spot_in l.depth) (parse l.depth) l.depth l.count l.after l.body;
+  from_end : place_of_values (place_in l.depth) (parse l.depth) l.depth (l.count - l.counter) l.after l.rest
+      ≡ place_of_values (place_in l.depth) (parse l.depth) l.depth l.count l.after l.body;
   shorter : length l.rest ≤ length l.body;
 }
 
 abbrev pub invariant-check_items-loop : goal.invariant-check_items-loop
 invariant-check_items-loop l = record {
   kept : skips (payload_in (parse_content l.depth) l.code) (l.count - l.counter) l.rest ≡ skips (payload_in (parse_content l.depth) l.code) l.count l.payloads;
-  spot : spot_of_values (spot_in_item l.depth l.code) (payload_in (parse_content l.depth) l.code) l.depth (l.count - l.counter) l.after l.rest
-      ≡ spot_of_values (spot_in_item l.depth l.code) (payload_in (parse_content l.depth) l.code) l.depth l.count l.after l.payloads;
+  from_end : place_of_values (place_in_item l.depth l.code) (payload_in (parse_content l.depth) l.code) l.depth (l.count - l.counter) l.after l.rest
+      ≡ place_of_values (place_in_item l.depth l.code) (payload_in (parse_content l.depth) l.code) l.depth l.count l.after l.payloads;
   shorter : length l.rest ≤ length l.payloads;
 }

@@ -4,8 +4,8 @@ use Rattle.amqp_frame.proofs.take_value.take_bytes.Given as goal
 
 abbrev pub invariant-loop-left : goal.invariant-loop-left
 invariant-loop-left g l = record {
-  moved : Moves (g.R.Read.left l.initial.reader) (g.R.Read.left l.reader) l.initial.taken.items
-      l.taken.items (λ bytes. length bytes + l.left ≡ l.count);
+  moved : Moves (g.R.Read.left l.initial.reader) (g.R.Read.left l.reader) l.initial.collected.items
+      l.collected.items (λ bytes. length bytes + l.left ≡ l.count);
   count : g.R.Read.failures l.initial.reader ≤ g.R.Read.failures l.reader;
 }
 

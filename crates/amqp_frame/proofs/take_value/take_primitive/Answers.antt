@@ -52,5 +52,5 @@ returns-then-start-body-clause-refused g c =
     ) in
     let told : c.body_len_of-body.result ≡ body_len (category c.args.code) size
     = c.body_len_of-body.ensures ∙ ap (λ k. body_len k size) c.category_of-category.ensures in
-    passes-body (category c.args.code) c.args.limit (length c.args.taken.now.items + 1) c.body_len_of-body.result _ _ size
-    c.in_ok-read_size.ensures.ok width told (omega (arith, length-take {A = ℕ}, c.args.taken.now.ok.0)) (omega (arith, length-take {A = ℕ}, c.args.taken.now.ok.0))
+    passes-body (category c.args.code) c.args.limit (length c.args.collected.now.items + 1) c.body_len_of-body.result _ _ size
+    c.in_ok-read_size.ensures.ok width told (omega (arith, length-take {A = ℕ}, c.args.collected.now.ok.0)) (omega (arith, length-take {A = ℕ}, c.args.collected.now.ok.0))

@@ -1,5 +1,5 @@
-use Rattle.amqp_from_value.proofs.HasImageLemmas.{array_stands}
+use Rattle.amqp_from_value.proofs.HasImageLemmas.{array_has_image}
 use Rattle.amqp_from_value.proofs.laws.arrays_return.Goals as goal
 
 pub returns : goal.returns
-returns c = array_stands
+returns c = array_has_image

@@ -1,5 +1,5 @@
-use Rattle.amqp_from_value.proofs.HasImageLemmas.{fields_stand, value_stands}
+use Rattle.amqp_from_value.proofs.HasImageLemmas.{fields_has_image, value_has_image}
 use Rattle.amqp_from_value.proofs.laws.variants_return.Goals as goal
 
 pub returns : goal.returns
-returns c = record { value = value_stands; fields = fields_stand }
+returns c = record { value = value_has_image; fields = fields_has_image }

@@ -1,7 +1,7 @@
 use Rattle.std.proofs.Common.{subst}
 use Rattle.amqp_de.specs.Answers.{Refuses}
 use Rattle.amqp_from_value.specs.Limited.{ReadsAllowed}
-use Rattle.amqp_from_value.proofs.SpelledLemmas.{IsMemory}
+use Rattle.amqp_from_value.proofs.FromReaderLemmas.{IsMemory}
 use Rattle.amqp_from_value.proofs.limited.from_slice_with.Goals as goal
 
 pub returns-in-Err : goal.returns-in-Err

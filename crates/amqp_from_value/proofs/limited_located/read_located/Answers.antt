@@ -1,6 +1,6 @@
 use Rattle.std.proofs.Common.{inl, inr, ap, ◌∙◌, subst}
 use Rattle.amqp_value.specs.TreeOf.{tree_of}
-use Rattle.amqp_de.specs.Spelled.{error_of}
+use Rattle.amqp_de.specs.FromBytes.{error_of}
 use Rattle.amqp_from_value.proofs.LimitedLemmas.{allowed-tree}
 use Rattle.amqp_from_value.proofs.limited_located.read_located.Goals as goal
 

@@ -2,8 +2,8 @@ use Rattle.std.proofs.Common.{inl, inr, ap, ◌∙◌}
 use Rattle.amqp_value.specs.TreeOf.{tree_of}
 use Rattle.amqp_decode.proofs.Whole.{one-tree}
 use Rattle.amqp_de.specs.Results.{IsMemory}
-use Rattle.amqp_de.specs.Spelled.{error_of}
-use Rattle.amqp_from_value.proofs.SpelledLemmas.{unread_by}
+use Rattle.amqp_de.specs.FromBytes.{error_of}
+use Rattle.amqp_from_value.proofs.FromReaderLemmas.{unread_by}
 use Rattle.amqp_from_value.proofs.located.read_by_value_located.Goals as goal
 
 pub returns-in-Ok-from_value_located-clause-law : goal.returns-in-Ok-from_value_located-clause-law

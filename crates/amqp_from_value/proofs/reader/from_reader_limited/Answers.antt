@@ -5,4 +5,4 @@ pub returns-in-Ok-clause-refused : goal.returns-in-Ok-clause-refused
 returns-in-Ok-clause-refused g c =
     refused_next_allowed g.T.Deserialize.reads c.args.limits (g.R.Read.left c.args.reader.now) (g.R.Read.left c.from_reader_limited.new.reader)
     (g.R.Read.failures c.args.reader.now) (g.R.Read.failures c.from_reader_limited.new.reader) c.in-Ok.lazy c.as_slice.result.now
-    c.in-Err-from_slice_limited.error c.in-Ok.ensures.frame.0 c.in-Ok.ensures.frame.1 c.as_slice.ensures.bytes c.in-Err-from_slice_limited.ensures.read
+    c.in-Err-from_slice_limited.error c.in-Ok.ensures.encoded.0 c.in-Ok.ensures.encoded.1 c.as_slice.ensures.bytes c.in-Err-from_slice_limited.ensures.read

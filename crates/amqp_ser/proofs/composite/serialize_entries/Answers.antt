@@ -5,7 +5,7 @@ use Rattle.amqp_ser.proofs.Feeding.{moved}
 use Rattle.amqp_ser.proofs.composite.serialize_entries.Goals as goal
 
 -- An error of the fields is permitted for the map of the fields.
-pub returns-in_err-feed_named : goal.returns-in_err-feed_named
-returns-in_err-feed_named g c =
+pub returns-in_err-serialize_map_parts : goal.returns-in_err-serialize_map_parts
+returns-in_err-serialize_map_parts g c =
     moved (g.S.Serializer.permits c.args.serializer.now) (ap (tree_of_parts Map) (append-nil _)) (search rules) (search rules)
-    (c.in_err-feed_named.ensures c.args.serializer.now Map [] c.begin_compound-compound.ensures [])
+    (c.in_err-serialize_map_parts.ensures c.args.serializer.now Map [] c.begin_compound-compound.ensures [])

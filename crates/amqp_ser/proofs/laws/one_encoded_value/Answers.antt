@@ -1,5 +1,5 @@
-use Rattle.amqp_ser.proofs.EncodedValue.{encoding_frame}
+use Rattle.amqp_ser.proofs.EncodedValue.{encoding_is_encoded}
 use Rattle.amqp_ser.proofs.laws.one_encoded_value.Goals as goal
 
 pub returns : goal.returns
-returns c = encoding_frame
+returns c = encoding_is_encoded

@@ -7,5 +7,5 @@ use Rattle.amqp_value.proofs.Sameness.{equal-is_same}
 use Rattle.amqp_to_value.proofs.laws.scalars_keep_their_content.Goals as goal
 
 pub returns : goal.returns
-returns c = λ s a b content stands.
-    equal-is_same b a ∙ ap (λ t. same_tree t (tree_of a)) (stands.2 ∙ ap image stands.1 ∙ sym content) ∙ same-itself (tree_of a)
+returns c = λ s a b content represents.
+    equal-is_same b a ∙ ap (λ t. same_tree t (tree_of a)) (represents.2 ∙ ap image represents.1 ∙ sym content) ∙ same-itself (tree_of a)

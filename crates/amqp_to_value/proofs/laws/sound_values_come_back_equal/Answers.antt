@@ -8,7 +8,7 @@ use Rattle.amqp_to_value.proofs.laws.sound_values_come_back_equal.Goals as goal
 
 pub returns : goal.returns
 returns c = record {
-  tree = λ a b sound stands. own a b sound stands;
-  equal = λ a b sound stands.
-      equal-is_same b a ∙ ap (λ t. same_tree t (tree_of a)) (own a b sound stands) ∙ same-itself (tree_of a);
+  tree = λ a b sound represents. own a b sound represents;
+  equal = λ a b sound represents.
+      equal-is_same b a ∙ ap (λ t. same_tree t (tree_of a)) (own a b sound represents) ∙ same-itself (tree_of a);
 }

@@ -26,12 +26,12 @@ loop-from-preserved-then-needs_escape g c =
 
 pub loop-from-preserved : goal.loop-from-preserved
 loop-from-preserved g c =
-    let ok : IsOk c.write_plain.result = search rules in record {
-      boundary = (c.plain_end-to.ensures.high, λ inside high. absurd (omega (arith, c.plain_end-to.ensures.stop inside, high)));
+    let ok : IsOk c.write_unescaped.result = search rules in record {
+      boundary = (c.unescaped_end-to.ensures.high, λ inside high. absurd (omega (arith, c.unescaped_end-to.ensures.stop inside, high)));
       written = λ plain.
           let so_far = c.loop-from.invariant.written plain in
-          has_written_of_eq _ _ _ _ _ (run_text _ _ _ _ _ c.as_bytes-bytes.ensures.value c.range.ensures.value c.plain_end-to.ensures.plain)
-          (has_written_append _ _ _ _ _ _ so_far (c.write_plain.ensures so_far.plain ok));
+          has_written_of_eq _ _ _ _ _ (run_text _ _ _ _ _ c.as_bytes-bytes.ensures.value c.range.ensures.value c.unescaped_end-to.ensures.plain)
+          (has_written_append _ _ _ _ _ _ so_far (c.write_unescaped.ensures so_far.plain ok));
     }
 
 pub returns : goal.returns

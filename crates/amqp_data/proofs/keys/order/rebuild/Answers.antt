@@ -1,7 +1,7 @@
 use Rattle.std.proofs.Common.{◌≡◌, [], ◌∷◌, length, get_or, position, sym, ap, ◌∙◌, arith, length-append}
 use Rattle.std.specs.Vec.Iter.{into_iter_items}
 use Rattle.amqp_data.specs.Pairs.{insert_pair}
-use Rattle.amqp_data.specs.Places.{places}
+use Rattle.amqp_data.specs.KeyPositions.{key_positions}
 use Rattle.amqp_data.proofs.OrderLemmas.{place_position, places_at, places_length, taken_one}
 use Rattle.amqp_data.proofs.PairLemmas.{insert_pairs_push}
 use Rattle.amqp_data.proofs.keys.order.rebuild.Goals as goal
@@ -22,7 +22,7 @@ put-requires g c =
     let all = c.into_iter-key-iterator.ensures.into_iter_gives.0 in
     let d = c.index-at.result.now in
     c.index-at.ensures ∙ (λ j. get_or (c.requires j) (c.loop-key.invariant.count j) d)
-    ∙ ap (λ es. get_or (places eq es []) (length c.loop-key.yielded) d) (sym all ∙ split)
+    ∙ ap (λ es. get_or (key_positions eq es []) (length c.loop-key.yielded) d) (sym all ∙ split)
     ∙ places_at eq c.loop-key.yielded e (into_iter_items c.next.new.self) [] d
     ∙ place_position eq c.in-Some.key _
     ∙ ap (λ es. position (λ x. eq c.in-Some.key x.0) es) (sym c.loop-key.invariant.made)

@@ -2,7 +2,7 @@ use Rattle.std.proofs.Common.{rules, ◌≡◌, inl, inr, [], ◌∷◌, ◌++�
 use Rattle.std.proofs.lemmas.List.{append-nil}
 use Rattle.std.proofs.lemmas.Result.{IfOk-weaker, IfErr-weaker}
 use Rattle.amqp_value.proofs.Zips.{zip_push}
-use Rattle.amqp_de.specs.Results.{Reading}
+use Rattle.amqp_de.specs.Results.{ReadsAndRestores}
 use Rattle.amqp_de.proofs.Loops.{all_zip_none, image_at}
 use Rattle.amqp_de.proofs.deserialize.Deserialize.read_all.Goals as goal
 
@@ -91,7 +91,7 @@ elements-preserved g c =
     let pushed : c.push.new.self.items ≡ c.elements.values.items ++ c.in-Ok-read.read.0 ∷ [] = search rules in
     rw pushed (
       done ++ t ∷ [],
-      zip_push (Reading g.Self.Deserialize.reads g.Self.Deserialize.image g.Self.Deserialize.restorable g.Self.Deserialize.same) done c.elements.values.items t c.in-Ok-read.read.0 z (c.in-Ok-read.ensures.read.0, c.in-Ok-read.ensures.law),
+      zip_push (ReadsAndRestores g.Self.Deserialize.reads g.Self.Deserialize.image g.Self.Deserialize.restorable g.Self.Deserialize.same) done c.elements.values.items t c.in-Ok-read.read.0 z (c.in-Ok-read.ensures.read.0, c.in-Ok-read.ensures.law),
       λ ts k. rw append_assoc (h (t ∷ ts) (c.in-Some-next.ensures.some c.in-Ok-read.read.1 ts c.in-Ok-read.ensures.read.1 (c.resume-in-elements.ensures.holds ts k))),
       λ w. let s = c.in-Some-next.ensures.some_whole (f w).0 in
           let r = c.resume-in-elements.ensures.whole s.1 in

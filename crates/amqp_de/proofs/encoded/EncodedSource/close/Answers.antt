@@ -1,7 +1,7 @@
 use Rattle.std.proofs.Common.{rules, ◌≡◌, [], length, arith}
 use Rattle.std.proofs.lemmas.Grind.{common_steps}
 use Rattle.amqp_decode.proofs.Whole.{nil-from_length}
-use Rattle.amqp_de.specs.EncodedTrees.{count_of, form_of}
+use Rattle.amqp_de.specs.EncodedTrees.{element_counter, element_reader}
 use Rattle.amqp_de.proofs.EncodedCounts.{closed_counts}
 use Rattle.amqp_de.proofs.EncodedLemmas.{closed}
 use Rattle.amqp_de.proofs.encoded.EncodedSource.close.Goals as goal
@@ -11,5 +11,5 @@ returns-then-is_empty-clause-ok c =
     let es = c.args.elements in
     let done : es.left ≡ 0 = search rules in
     let none : length es.bytes.now ≡ 0 = grind (arith, common_steps) in
-    let filled = closed (form_of es.depth es.constructor) es.left es.bytes.now done (nil-from_length es.bytes.now none) in
-    ([], (filled, closed_counts (count_of es.depth es.constructor) (form_of es.depth es.constructor) es.left es.bytes.now done))
+    let filled = closed (element_reader es.depth es.constructor) es.left es.bytes.now done (nil-from_length es.bytes.now none) in
+    ([], (filled, closed_counts (element_counter es.depth es.constructor) (element_reader es.depth es.constructor) es.left es.bytes.now done))

@@ -3,7 +3,7 @@ use Rattle.std.proofs.lemmas.Grind.{common_steps}
 use Rattle.amqp_decode.specs.Parsed.{parse}
 use Rattle.amqp_decode.specs.WithoutBytes.{elements_without_bytes}
 use Rattle.amqp_decode.proofs.Whole.{nil-from_length}
-use Rattle.amqp_de.specs.EncodedTrees.{form_of}
+use Rattle.amqp_de.specs.EncodedTrees.{element_reader}
 use Rattle.amqp_de.proofs.EncodedCounts.{own_counts, item_counts}
 use Rattle.amqp_de.proofs.EncodedLemmas.{next_own, next_item, none_left, no_bytes}
 use Rattle.amqp_de.proofs.encoded.EncodedSource.next.Goals as goal
@@ -12,7 +12,7 @@ use Rattle.amqp_de.proofs.encoded.EncodedSource.next.Goals.{then-code-eq0+in-Som
 pub returns-then-elements-eq0-clause-none : goal.returns-then-elements-eq0-clause-none
 returns-then-elements-eq0-clause-none c ts held =
     let es = c.args.elements.now in
-    let (empty, old) = none_left (form_of es.depth es.constructor) es.left es.bytes.now ts c.if-elements-eq0.true held.0 in
+    let (empty, old) = none_left (element_reader es.depth es.constructor) es.left es.bytes.now ts c.if-elements-eq0.true held.0 in
     (empty, (old, held.1))
 
 pub returns-in-None-clause-none : goal.returns-in-None-clause-none

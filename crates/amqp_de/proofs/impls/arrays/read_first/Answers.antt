@@ -1,7 +1,7 @@
 use Rattle.std.proofs.Common.{rules, arith, ◌≡◌, ◌<◌, inl, inr, [], ◌∷◌, ◌++◌, length, sym, ap, ◌∙◌, append_assoc}
 use Rattle.std.proofs.lemmas.List.{append-nil, length-append}
 use Rattle.amqp_value.proofs.Zips.{zip_push}
-use Rattle.amqp_de.specs.Results.{Reading}
+use Rattle.amqp_de.specs.Results.{ReadsAndRestores}
 use Rattle.amqp_de.proofs.Firsts.{firsts_read, too_few, firsts_refused, as_long, too_few_images}
 use Rattle.amqp_de.proofs.Loops.{image_at}
 use Rattle.amqp_de.proofs.impls.arrays.read_first.Goals as goal
@@ -17,7 +17,7 @@ returns-in-None-clause-err g c w =
     let more : length c.elements.values.items < c.args.count = search (arith, rules) in
     let s = c.in-None.ensures.none_whole (f w).0 in
     let whole : g.S.Source.items c.args.elements ≡ done = (f w).1 ∙ ap (λ ts. done ++ ts) s.1 ∙ append-nil done in
-    let short = as_long (Reading g.T.Deserialize.reads g.T.Deserialize.image g.T.Deserialize.restorable g.T.Deserialize.same) c.args.count done c.elements.values.items z more in
+    let short = as_long (ReadsAndRestores g.T.Deserialize.reads g.T.Deserialize.image g.T.Deserialize.restorable g.T.Deserialize.same) c.args.count done c.elements.values.items z more in
     inr (too_few g.T.Deserialize.reads c.args.count (g.S.Source.items c.args.elements) (rw whole short))
 
 pub returns-in-None-clause-law : goal.returns-in-None-clause-law
@@ -26,7 +26,7 @@ returns-in-None-clause-law g c xs all long is w =
     let more : length c.elements.values.items < c.args.count = search (arith, rules) in
     let s = c.in-None.ensures.none_whole (f w).0 in
     let whole : g.S.Source.items c.args.elements ≡ done = (f w).1 ∙ ap (λ ts. done ++ ts) s.1 ∙ append-nil done in
-    let short = as_long (Reading g.T.Deserialize.reads g.T.Deserialize.image g.T.Deserialize.restorable g.T.Deserialize.same) c.args.count done c.elements.values.items z more in
+    let short = as_long (ReadsAndRestores g.T.Deserialize.reads g.T.Deserialize.image g.T.Deserialize.restorable g.T.Deserialize.same) c.args.count done c.elements.values.items z more in
     too_few_images c.args.count g.T.Deserialize.image (g.S.Source.items c.args.elements) xs (rw whole short) long is
 
 pub returns-in-Err-read-clause-err : goal.returns-in-Err-read-clause-err
@@ -35,7 +35,7 @@ returns-in-Err-read-clause-err g c w =
     let more : length c.elements.values.items < c.args.count = search (arith, rules) in
     let s = c.in-Some.ensures.some_whole (f w).0 in
     let whole = (f w).1 ∙ ap (λ ts. done ++ ts) s.2 in
-    let short = as_long (Reading g.T.Deserialize.reads g.T.Deserialize.image g.T.Deserialize.restorable g.T.Deserialize.same) c.args.count done c.elements.values.items z more in
+    let short = as_long (ReadsAndRestores g.T.Deserialize.reads g.T.Deserialize.image g.T.Deserialize.restorable g.T.Deserialize.same) c.args.count done c.elements.values.items z more in
     elim (c.in-Err-read.ensures.read s.0) [
       | inl m ↦ inl (c.placed.ensures ∙ m)
       | inr n ↦ inr (firsts_refused g.T.Deserialize.reads c.args.count _ done _ _ whole short n)
@@ -60,7 +60,7 @@ elements-preserved g c =
       omega arith,
       (
         done ++ t ∷ [],
-        zip_push (Reading g.T.Deserialize.reads g.T.Deserialize.image g.T.Deserialize.restorable g.T.Deserialize.same) done before t c.in-Ok-read.read.0 z (c.in-Ok-read.ensures.read.0, c.in-Ok-read.ensures.law),
+        zip_push (ReadsAndRestores g.T.Deserialize.reads g.T.Deserialize.image g.T.Deserialize.restorable g.T.Deserialize.same) done before t c.in-Ok-read.read.0 z (c.in-Ok-read.ensures.read.0, c.in-Ok-read.ensures.law),
         λ ts k. rw append_assoc (h (t ∷ ts) (c.in-Some.ensures.some c.in-Ok-read.read.1 ts c.in-Ok-read.ensures.read.1 (c.resume.ensures.holds ts k))),
         λ w. let s = c.in-Some.ensures.some_whole (f w).0 in
             let r = c.resume.ensures.whole s.1 in
@@ -73,7 +73,7 @@ returns-in-Ok-close-clause-ok g c =
     let (most, (done, z, h, f)) = c.elements.invariant in
     let long : length c.elements.values.items ≡ c.args.count = search (arith, rules) in
     let (ts, held) = c.in-Ok-close.ensures.ok in
-    (done ++ ts, h ts held, long, firsts_read (Reading g.T.Deserialize.reads g.T.Deserialize.image g.T.Deserialize.restorable g.T.Deserialize.same) c.args.count done ts c.elements.values.items z long)
+    (done ++ ts, h ts held, long, firsts_read (ReadsAndRestores g.T.Deserialize.reads g.T.Deserialize.image g.T.Deserialize.restorable g.T.Deserialize.same) c.args.count done ts c.elements.values.items z long)
 
 pub returns-in-Err-close-clause-err : goal.returns-in-Err-close-clause-err
 returns-in-Err-close-clause-err g c w =

@@ -3,7 +3,7 @@ use Rattle.std.proofs.lemmas.List.{append-nil}
 use Rattle.amqp_ser.specs.Tree.{Tree}
 use Rattle.amqp_value.proofs.Zips.{zip_push}
 use Rattle.amqp_de.specs.Maps.{ReadsPair, pair_image, IsPair}
-use Rattle.amqp_de.specs.Results.{Reading}
+use Rattle.amqp_de.specs.Results.{ReadsAndRestores}
 use Rattle.amqp_de.proofs.Loops.{all_zip_none, image_at}
 use Rattle.amqp_de.proofs.impls.maps.read_entries.Goals as goal
 
@@ -76,7 +76,7 @@ entries-preserved g c =
     let pushed : c.push.new.self.items ≡ c.entries.items.items ++ (c.in-Ok-read.read.0, c.in-Ok-read-2.read.0) ∷ [] = search rules in
     rw pushed (
       done ++ e ∷ [],
-      zip_push (ReadsPair (Reading K.reads K.image K.restorable K.same) (Reading V.reads V.image V.restorable V.same)) done c.entries.items.items e (c.in-Ok-read.read.0, c.in-Ok-read-2.read.0) z
+      zip_push (ReadsPair (ReadsAndRestores K.reads K.image K.restorable K.same) (ReadsAndRestores V.reads V.image V.restorable V.same)) done c.entries.items.items e (c.in-Ok-read.read.0, c.in-Ok-read-2.read.0) z
           ((c.in-Ok-read.ensures.read.0, c.in-Ok-read.ensures.law), (c.in-Ok-read-2.ensures.read.0, c.in-Ok-read-2.ensures.law)),
       λ ps held. rw append_assoc (h (e ∷ ps) (c.in-Some.ensures.some c.in-Ok-read.read.1 v ps c.in-Ok-read.ensures.read.1
           (c.in-Ok-value_after.ensures.ok c.in-Ok-read-2.read.1 ps c.in-Ok-read-2.ensures.read.1 (c.resume_entries.ensures.holds ps held)))),

@@ -3,7 +3,7 @@ use Rattle.std.proofs.lemmas.Grind.{common_steps}
 use Rattle.amqp_ser.specs.Tree.{scalar}
 use Rattle.amqp_decode.specs.Prefix.{item_of}
 use Rattle.amqp_decode.specs.Parsed.{parse, parse_content}
-use Rattle.amqp_decode.proofs.Levels.{parse_frame}
+use Rattle.amqp_decode.proofs.Levels.{parse_value}
 use Rattle.amqp_de.proofs.Fillings.{filling_none, filling_more, filled}
 use Rattle.amqp_de.proofs.scalar.Scalar.from_payloads.Goals as goal
 
@@ -17,7 +17,7 @@ loop-read-preserved g c =
     let p : c.push_item.new.items.items ≡ c.loop-read.items.items ++ c.in_ok-item.item ∷ [] = search rules in
     rw p (λ depth. filling_more (λ t x. t ≡ scalar (g.Self.Scalar.content x)) (item_of depth c.args.code) c.args.count c.args.body.now c.loop-read.read c.loop-read.rest.now _ c.loop-read.items.items
     (scalar (g.Self.Scalar.content c.in_ok-item.item)) c.in_ok-item.item c.loop-read-test.true (c.loop-read.invariant depth)
-    (parse_frame depth (c.args.code ∷ c.loop-read.rest.now) ∙ c.in_ok-item.ensures (parse depth) (parse_content depth)) refl)
+    (parse_value depth (c.args.code ∷ c.loop-read.rest.now) ∙ c.in_ok-item.ensures (parse depth) (parse_content depth)) refl)
 
 pub returns-then-is_empty : goal.returns-then-is_empty
 returns-then-is_empty g c depth =

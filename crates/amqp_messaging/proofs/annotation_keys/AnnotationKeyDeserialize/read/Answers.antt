@@ -3,7 +3,7 @@ use Rattle.amqp_data.specs.declared.descriptor.Descriptor.{Descriptor}
 use Rattle.amqp_data.specs.declared.descriptor.Descriptor.TheVariants as descriptor
 use Rattle.amqp_ser.specs.Carried.{descriptor_content}
 use Rattle.amqp_ser.specs.Tree.{scalar}
-use Rattle.amqp_decode.specs.Spells.{descriptor_scalar}
+use Rattle.amqp_decode.specs.Encodes.{descriptor_scalar}
 use Rattle.amqp_messaging.specs.contracts.annotation_keys.AnnotationKeyDeserialize.TheImpl as own
 use Rattle.amqp_messaging.specs.declared.identifiers.AnnotationKey.{AnnotationKey}
 use Rattle.amqp_messaging.specs.declared.identifiers.AnnotationKey.TheVariants as variant

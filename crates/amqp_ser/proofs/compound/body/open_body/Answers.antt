@@ -10,8 +10,8 @@ pub returns-in-Err-end_part : goal.returns-in-Err-end_part
 returns-in-Err-end_part g c = λ start h.
     let s1 = c.begin_part.new.self in
     let ready = c.begin_part.ensures.ready start Single [] h in
-    let k = fields_kind c.args.named in
-    let parts = field_parts c.args.named c.args.key.now (g.T.Serialize.tree c.args.value.now) in
+    let k = fields_kind c.args.in_map in
+    let parts = field_parts c.args.in_map c.args.key.now (g.T.Serialize.tree c.args.value.now) in
     let opened = subst (λ x. g.S.Serializer.has s1 x c.begin_compound-fields.new.self c.begin_compound-fields.result []) c.fields_kind.ensures c.begin_compound-fields.ensures in
     let refused = c.in-Err.ensures s1 opened in
     let all = c.in-Err-end_part.ensures.step start Single s1 [] in (

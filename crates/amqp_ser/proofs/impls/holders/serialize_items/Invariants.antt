@@ -7,5 +7,5 @@ abbrev pub invariant-loop-item : goal.invariant-loop-item
 invariant-loop-item g l =
     record {
       same : l.seq.serializer.ghost_name ≡ l.initial.seq.serializer.ghost_name;
-      fed : g.S.Serializer.has l.fn.serializer List l.seq.serializer.now l.seq.compound (map g.T.Serialize.tree (take l.item-index l.items));
+      accepted : g.S.Serializer.has l.fn.serializer List l.seq.serializer.now l.seq.compound (map g.T.Serialize.tree (take l.item-index l.items));
     }

@@ -9,7 +9,7 @@ use Rattle.amqp_size.specs.declared.open_compound.OpenCompound.{OpenCompound}
 use Rattle.amqp_size.specs.declared.resolved_kind.ResolvedKind.{ResolvedKind}
 use Rattle.amqp_size.specs.declared.resolved_kind.ResolvedKind.TheVariants as resolved_kinds
 use Rattle.amqp_size.specs.WholeContext.{Context}
-use Rattle.amqp_size.specs.WholeContext.{Plain}
+use Rattle.amqp_size.specs.WholeContext.{Unmarked}
 use Rattle.amqp_size.specs.declared.serializer.SizeSerializer.{SizeSerializer}
 use Rattle.amqp_size.proofs.Transparent.{transparent_shape}
 use Rattle.amqp_size.proofs.Single.{single_kind}
@@ -19,7 +19,7 @@ nothing : (b : Bool) → (0 ≡ length (body_bytes b no_trees)) × ((0 ≡ count
 nothing true = (refl, (refl, refl))
 nothing false = (refl, (refl, refl))
 
-first_inner : (s : ResolvedKind) (u : Context) → is_gathered s ≡ true → inner_context_of s u ≡ Plain (inner_position_of (is_array s) no_trees)
+first_inner : (s : ResolvedKind) (u : Context) → is_gathered s ≡ true → inner_context_of s u ≡ Unmarked (inner_position_of (is_array s) no_trees)
 first_inner resolved_kinds.List u g = refl
 first_inner resolved_kinds.Map u g = refl
 first_inner (resolved_kinds.Variant i) u g = refl
@@ -43,12 +43,12 @@ gathers start kind new a b g f d e =
       resolved_kind = b;
       gathered = ap is_gathered b ∙ g;
       back = λ odd qs q f. absurd (never odd);
-      fed = record {
+      accepted = record {
         sum = d ∙ n.0;
         fits_sum = ap fits d;
         counted = e ∙ n.1.0;
         few = ap is_count e;
-        inner_context = f ∙ first_inner (resolved_kind_of start.context kind) start.context g ∙ sym (ap (λ s. Plain (inner_position_of (is_array s) no_trees)) b);
+        inner_context = f ∙ first_inner (resolved_kind_of start.context kind) start.context g ∙ sym (ap (λ s. Unmarked (inner_position_of (is_array s) no_trees)) b);
         uniform_arrays_parts = refl;
         within_limits_parts = refl;
         inside_parts = refl;
@@ -96,5 +96,5 @@ returns c =
     let position = e.position ∙ ap position_of here in
     let resolved_kind = c.resolved_kind.ensures prefix_len ∙ ap (λ u. resolved_kind_of u c.args.kind) here in (
       opened start c.args.kind c.new.result position (e.resolved_kind ∙ resolved_kind) (e.inner_context ∙ ap (λ s. inner_context_of s (context_at c.self.inside.context prefix_len)) resolved_kind ∙ ap (inner_context_of (resolved_kind_of start.context c.args.kind)) here) e.sum e.count (resolved_kind_of start.context c.args.kind) refl,
-      c.clear_prefix.ensures ∙ ap (λ q. Plain (without_prefix q)) (sym position),
+      c.clear_prefix.ensures ∙ ap (λ q. Unmarked (without_prefix q)) (sym position),
     )

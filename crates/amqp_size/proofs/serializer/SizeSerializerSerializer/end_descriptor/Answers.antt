@@ -10,14 +10,14 @@ use Rattle.amqp_size.specs.Position.{position_of, meant, without_prefix, describ
 use Rattle.amqp_size.specs.AddPart.{Undescribed}
 use Rattle.amqp_size.specs.SizeSerializer.{AtPosition, SizeHas, SizePermits, HoldsSingle}
 use Rattle.amqp_size.specs.WholePosition as position
-use Rattle.amqp_size.specs.WholeContext.{Plain}
+use Rattle.amqp_size.specs.WholeContext.{Unmarked}
 use Rattle.amqp_size.specs.declared.open_compound.OpenCompound.{OpenCompound}
 use Rattle.amqp_size.specs.declared.serializer.SizeSerializer.{SizeSerializer}
 use Rattle.amqp_size.proofs.Described.{counted_descriptor, described_step, described_rest, described_refusal}
 use Rattle.amqp_size.proofs.serializer.SizeSerializerSerializer.end_descriptor.Goals as goal
 
 -- What holds after a descriptor is measured or exceeds the limit.
-known : (start now : SizeSerializer) (compound new : OpenCompound) (n : ℕ) (x : Descriptor) (d : Option Tree) (res : Result (Unit {0}) SizeError) → HoldsSingle start kinds.Single compound [] → now.context ≡ Plain (without_prefix compound.position) →
+known : (start now : SizeSerializer) (compound new : OpenCompound) (n : ℕ) (x : Descriptor) (d : Option Tree) (res : Result (Unit {0}) SizeError) → HoldsSingle start kinds.Single compound [] → now.context ≡ Unmarked (without_prefix compound.position) →
     descriptor_of d ≡ Some x → n ≡ length (descriptor_form x) → descriptor_fits x ≡ true → IsRangedDescriptor x → without_prefix new.position ≡ without_prefix compound.position → new.resolved_kind ≡ compound.resolved_kind → new.count ≡ compound.count →
     MatchResult res (λ _. described_context compound.inner_context n ≡ Some new.inner_context) (λ e. (new ≡ compound) × Undescribed compound.inner_context n e) →
     MatchResult res
@@ -35,14 +35,14 @@ known start now compound new n x d (Ok u) h here o len fits g a b c m =
             resolved_kind = b ∙ h.resolved_kind;
             parts = (c ∙ h.parts.0, refl);
           })),
-          here ∙ ap Plain (sym a),
+          here ∙ ap Unmarked (sym a),
         ),
         λ t r after p. subst (λ w. AtPosition (position_of start.context) (meant start.context (as_described w t)) r after.context) (sym o) (described_step start.context new.inner_context n x s len fits g t r after.context p),
       ),
     )
 known start now compound new n x d (Err e) h here o len fits g a b c m =
     let why : Undescribed start.context n e = subst (λ w. Undescribed w n e) h.parts.1 m.1 in
-    let at : Plain (without_prefix (position_of start.context)) ≡ now.context = ap Plain (sym h.position) ∙ sym here in (
+    let at : Unmarked (without_prefix (position_of start.context)) ≡ now.context = ap Unmarked (sym h.position) ∙ sym here in (
       (subst (λ w. SizeHas start kinds.Single now w []) (sym m.0) (inr (inr h), here)),
       λ t. subst (λ w. AtPosition (position_of start.context) (meant start.context (as_described w t)) (Err e) now.context) (sym o)
           (subst (λ q. AtPosition (position_of start.context) (meant start.context (as_described (Some x) t)) (Err e) q) at (described_refusal start.context n x e why len t)),
@@ -56,4 +56,4 @@ returns-clause-step c = λ start before d w r.
     let here = subst (λ u. AtPosition (position_of u) (meant u d) c.args.part after) w.1 r in
     let counted = counted_descriptor d n after (subst (λ p. AtPosition position.Descriptor d p after) c.in_ok-descriptor.was here) in
     let t = c.describe.ensures in
-    known start _ compound c.describe.new.self n counted.0 d c.describe.result w.0 (ap Plain (c.without_prefix.ensures compound.prefix_len _ ∙ ap without_prefix c.position.ensures)) counted.1.0 counted.1.1.0 counted.1.1.1.0 counted.1.1.1.1 t.position t.resolved_kind t.count t.kept
+    known start _ compound c.describe.new.self n counted.0 d c.describe.result w.0 (ap Unmarked (c.without_prefix.ensures compound.prefix_len _ ∙ ap without_prefix c.position.ensures)) counted.1.0 counted.1.1.0 counted.1.1.1.0 counted.1.1.1.1 t.position t.resolved_kind t.count t.kept

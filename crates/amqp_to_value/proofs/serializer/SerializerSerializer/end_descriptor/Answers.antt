@@ -25,10 +25,10 @@ returns-in_err-descriptor-clause-step c = λ start before d h r.
     let answer = subst (λ x. ValuePermits before d x c.args.self.now) c.in_ok-part.was r in
     let saved = saved_after start before c.args.self.now c.release.new.self c.args.self.now.capacity (Ok v) h.2.2 answer.1 c.release.ensures.next
     (λ rest at. c.release.ensures.parted start.descriptors.kept (standing start.descriptors) rest at h.0) in
-    let stands = descriptor_answer start before d (Ok v) h.2 answer.0 in
+    let represents = descriptor_answer start before d (Ok v) h.2 answer.0 in
     let none = c.in_err-descriptor.ensures in
     let same : c.from_residual-in_err-descriptor.result ≡ Err InvalidValue = search rules in
-    rw same ((h.0, h.1, saved), λ t. (no_descriptor start d t (same_descriptor v d stands ∙ none.0), saved))
+    rw same ((h.0, h.1, saved), λ t. (no_descriptor start d t (same_descriptor v d represents ∙ none.0), saved))
 
 pub returns-in_err-compound-clause-step : goal.returns-in_err-compound-clause-step
 returns-in_err-compound-clause-step c = λ start before d h r.
@@ -50,11 +50,11 @@ returns-clause-step c = λ start before d h r.
     let all = start.descriptors.kept ++ standing start.descriptors in
     let answer = subst (λ x. ValuePermits before d x c.args.self.now) c.in_ok-part.was r in
     let kept = kept_same all before c.args.self.now (Ok v) h.2.2 answer.1 in
-    let stands = descriptor_answer start before d (Ok v) h.2 answer.0 in
+    let represents = descriptor_answer start before d (Ok v) h.2 answer.0 in
     let rel = c.release.ensures.parted start.descriptors.kept (standing start.descriptors) _ (parted_again start c.args.self.now kept) h.0 in
     let after = c.in_ok-compound.ensures start.descriptors.kept (standing start.descriptors) c.args.self.now.descriptors.later rel.0 rel.1 (c.release.ensures.next ∙ kept.0.1) h.0 in
     let inner = c.describe-2.ensures start.pending h.1 in
-    let is = same_descriptor v d stands ∙ c.in_ok-descriptor.ensures in (
+    let is = same_descriptor v d represents ∙ c.in_ok-descriptor.ensures in (
       record {
         alloc = start.alloc;
         pending = inner.0;

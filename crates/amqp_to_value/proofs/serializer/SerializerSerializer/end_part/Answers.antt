@@ -4,8 +4,8 @@ use Rattle.amqp_to_value.specs.PendingDescriptors.{standing}
 use Rattle.amqp_to_value.specs.ValueSerializer.{HasParts, IsReady, ValuePermits}
 use Rattle.amqp_to_value.specs.declared.open_value.OpenBody.TheVariants as body
 use Rattle.amqp_to_value.proofs.AnswerLemmas.{aside_again, saved_after}
-use Rattle.amqp_to_value.proofs.ValueSerializerLemmas.{part_left, part_taken, plain_answer}
-use Rattle.amqp_to_value.proofs.PartLemmas.{single_taken, left_by_refusal, part_refused, second_part, stands}
+use Rattle.amqp_to_value.proofs.ValueSerializerLemmas.{part_left, part_taken, unmarked_answer}
+use Rattle.amqp_to_value.proofs.PartLemmas.{single_taken, left_by_refusal, part_refused, second_part, represents}
 use Rattle.amqp_to_value.proofs.serializer.SerializerSerializer.end_part.Goals as goal
 
 pub returns-in_err-value-clause-step : goal.returns-in_err-value-clause-step
@@ -22,7 +22,7 @@ returns-in_err-value-clause-step c = λ start kind before ps p h r.
 pub returns-in_err-unwrap-in-None-clause-step : goal.returns-in_err-unwrap-in-None-clause-step
 returns-in_err-unwrap-in-None-clause-step c = λ start kind before ps p h r.
     let is = c.in-Single.is ∙ ap (body.Single c.in-Single.field-0) c.in-None.is in
-    let s = stands start before c.args.self.now c.in-Single.field-0 p c.in_ok-value.value (subst (IsReady start before) is h.2)
+    let s = represents start before c.args.self.now c.in-Single.field-0 p c.in_ok-value.value (subst (IsReady start before) is h.2)
     (subst (λ x. ValuePermits before p x c.args.self.now) c.in_ok-value.was r) in
     let rel = c.release.ensures.parted start.descriptors.kept (standing start.descriptors) c.args.self.now.descriptors.later (ap (λ ds. ds ++ c.args.self.now.descriptors.later) s.others) h.0 in
     absurd (c.in_err-unwrap-in-None.ensures start.descriptors.kept (standing start.descriptors) (image s.read) rel.0 (c.release.ensures.next ∙ s.none) h.0
@@ -32,7 +32,7 @@ pub returns-in_ok-unwrap-in-None-clause-step : goal.returns-in_ok-unwrap-in-None
 returns-in_ok-unwrap-in-None-clause-step c = λ start kind before ps p h r.
     let is = c.in-Single.is ∙ ap (body.Single c.in-Single.field-0) c.in-None.is in
     let answer = subst (λ x. ValuePermits before p x c.args.self.now) c.in_ok-value.was r in
-    let s = stands start before c.args.self.now c.in-Single.field-0 p c.in_ok-value.value (subst (IsReady start before) is h.2) answer in
+    let s = represents start before c.args.self.now c.in-Single.field-0 p c.in_ok-value.value (subst (IsReady start before) is h.2) answer in
     let rel = c.release.ensures.parted start.descriptors.kept (standing start.descriptors) c.args.self.now.descriptors.later (ap (λ ds. ds ++ c.args.self.now.descriptors.later) s.others) h.0 in
     let taken = single_taken start (record { alloc = c.args.self.now.alloc; pending = c.args.self.now.pending; descriptors = c.unwrap.new.self; capacity = c.args.self.now.capacity }) kind c.in-Single.field-0
     c.in_ok-unwrap-in-None.field-0 ps p s.tree s.read (subst (λ b. HasParts start.pending kind b ps) is h.1) s.means s.opened answer.1.0.0.0
@@ -62,7 +62,7 @@ returns-in-Ok-clause-step c = λ start kind before ps p h r.
       (
         has.0,
         part_taken start.pending kind c.in-CollectedParts.parts _ ps has.1 c.add_part.ensures.makes p c.in_ok-value.value
-            (plain_answer before _ p (Ok c.in_ok-value.value) ready answer.0) c.in-Ok.ensures.step,
+            (unmarked_answer before _ p (Ok c.in_ok-value.value) ready answer.0) c.in-Ok.ensures.step,
       ),
       saved,
     )
@@ -79,7 +79,7 @@ returns-in-Err-clause-step c = λ start kind before ps p h r.
         (
           has.0,
           part_left start.pending kind c.in-CollectedParts.parts _ ps has.1 c.add_part.ensures.makes p c.in_ok-value.value
-              (plain_answer before _ p (Ok c.in_ok-value.value) ready answer.0) c.in-Err.ensures.step,
+              (unmarked_answer before _ p (Ok c.in_ok-value.value) ready answer.0) c.in-Err.ensures.step,
         ),
         saved,
       ),

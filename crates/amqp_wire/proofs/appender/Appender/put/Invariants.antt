@@ -8,5 +8,5 @@ invariant-loop-byte l =
     record {
       written : l.self.out.items ≡ l.initial.self.out.items ++ take l.byte-index l.bytes;
       capacity : vec_capacity l.self.out ≡ vec_capacity l.initial.self.out;
-      spoiled : l.self.spoiled ≡ l.initial.self.spoiled;
+      poisoned : l.self.poisoned ≡ l.initial.self.poisoned;
     }

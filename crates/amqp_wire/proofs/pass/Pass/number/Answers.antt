@@ -8,4 +8,4 @@ returns-clause-grown g c =
 
 pub returns-clause-gave : goal.returns-clause-gave
 returns-clause-gave g c =
-    λ q x f. number_gave g.K.Sink.adds g.K.Sink.reads g.K.Sink.chains c.args.self.now.sink c.admit.new.self.sink c.put_number.new.sink c.args.self.now.place c.admit.new.self.place c.args.in_array c.args.ordinary x c.is_element-element.result f c.is_element-element.ensures (c.admit.ensures.admitted (search rules)) (c.admit.ensures.led (search rules)) (c.put_number.ensures.put q)
+    λ q x f. number_gave g.K.Sink.adds g.K.Sink.reads g.K.Sink.chains c.args.self.now.sink c.admit.new.self.sink c.put_number.new.sink c.args.self.now.position c.admit.new.self.position c.args.in_array c.args.ordinary x c.is_element-element.result f c.is_element-element.ensures (c.admit.ensures.admitted (search rules)) (c.admit.ensures.led (search rules)) (c.put_number.ensures.put q)

@@ -1,5 +1,5 @@
 use Rattle.std.proofs.Common.{◌≡◌, false}
-use Rattle.amqp_ser.proofs.Entries.{FedUpTo}
+use Rattle.amqp_ser.proofs.Entries.{AcceptedUpTo}
 use Rattle.amqp_ser.specs.declared.kind.CompoundKind.TheVariants.{Map}
 use Rattle.amqp_ser.proofs.impls.maps.BTreeMapSerialize.serialize.Given as goal
 
@@ -9,5 +9,5 @@ invariant-loop-key g l =
     record {
       same : l.map.serializer.ghost_name ≡ l.initial.map.serializer.ghost_name;
       no_key : l.map.pending ≡ false;
-      fed : FedUpTo (g.S.Serializer.has l.fn.serializer Map l.map.serializer.now l.map.compound) g.K.Serialize.tree g.V.Serialize.tree l.key-iterator l.self.entries;
+      accepted : AcceptedUpTo (g.S.Serializer.has l.fn.serializer Map l.map.serializer.now l.map.compound) g.K.Serialize.tree g.V.Serialize.tree l.key-iterator l.self.entries;
     }
