@@ -64,7 +64,11 @@ impl<K: Hash + Eq, V> OrderedMapBuilder<K, V> {
         ensures { result ≡ [] }
     {
         let entries = Vec::new(alloc);
-        let (heads, earlier) = match index_entries(alloc, &entries, count.saturating_mul(2).max(1)) {
+        let (heads, earlier) = match index_entries(
+            alloc,
+            &entries,
+            count.saturating_mul(2).max(1),
+        ) {
             Some(index) => index,
             None => (Vec::new(alloc), Vec::new(alloc)),
         };

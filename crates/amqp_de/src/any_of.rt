@@ -10,12 +10,12 @@ ghost use Rattle.amqp_de.specs.declared.source_kind.SourceKind.TheVariants as fo
 
 use crate::fault::Fault;
 use crate::fields::FieldSeeds;
-use crate::source_kind::{SourceKind, source_kind_of};
 use crate::held_parts::Held;
 use crate::named_fields::NamedFields;
 use crate::seed::Seed;
 use crate::shape::{FullListOf, Shape};
 use crate::source::Source;
+use crate::source_kind::{SourceKind, source_kind_of};
 use amqp_ser::{ListOf, MapOf};
 use amqp_value::ValueKind;
 use std::alloc::Global;

@@ -7,10 +7,10 @@ ghost use Rattle.amqp_de.specs.Maps.{AreApart};
 
 use crate::encoded_parts::{Encoded, EncodedElements, EncodedEntries};
 use crate::fault::Fault;
-use crate::source_kind::{SourceKind, source_kind_of_code};
 use crate::parts::{first_descriptor, list_scalars, split_name};
 use crate::scalar::Scalar;
 use crate::source::Source;
+use crate::source_kind::{SourceKind, source_kind_of_code};
 use amqp_data::Descriptor;
 use amqp_decode::prefix::{read_null, read_value_after_code, split_array, split_list, split_map};
 use amqp_value::Value;

@@ -6,11 +6,11 @@ ghost use Rattle.amqp_de.specs.Results.{IsMemory, TakesAll, BringsAll};
 
 use crate::deserialize::Deserialize;
 use crate::fault::Fault;
-use crate::source_kind::{SourceKind, source_kind_of};
 use crate::held_parts::{Held, HeldElements, HeldEntries};
 use crate::keys::find;
 use crate::scalar::{Scalar, content_of};
 use crate::source::Source;
+use crate::source_kind::{SourceKind, source_kind_of};
 use amqp_data::Descriptor;
 use amqp_value::{Value, ValueKind};
 use std::alloc::Global;

@@ -14,8 +14,8 @@ ghost use Rattle.amqp_de.specs.Fields.{value_at, without};
 ghost use Rattle.amqp_de.specs.Present.{distinct_names, has_name};
 
 use crate::fault::Fault;
-use crate::source_kind::SourceKind;
 use crate::scalar::Scalar;
+use crate::source_kind::SourceKind;
 use amqp_data::Descriptor;
 use amqp_value::Value;
 use std::alloc::Global;

@@ -60,7 +60,12 @@ fn skip_described(bytes: &[u8], depth: u16, after: usize) -> Result<&[u8], Place
 
 // Skips the payload of this code, of a value with at most `depth` levels.
 #[cycle(skip)]
-fn skip_payload(code: EncodingCodes, bytes: &[u8], depth: u16, after: usize) -> Result<&[u8], PlaceFromEnd>
+fn skip_payload(
+    code: EncodingCodes,
+    bytes: &[u8],
+    depth: u16,
+    after: usize,
+) -> Result<&[u8], PlaceFromEnd>
     requires fits { length bytes.now + after < 2 ^ 64 }
     requires above { 0 < depth }
     ensures ok { IfOk result (λ rest. (t : Tree) ×
@@ -84,7 +89,12 @@ fn skip_payload(code: EncodingCodes, bytes: &[u8], depth: u16, after: usize) -> 
 
 // Checks the content of a payload of this code. `depth` limits the values inside.
 #[cycle(skip)]
-fn check_content(code: EncodingCodes, content: &[u8], depth: u16, after: usize) -> Result<(), PlaceFromEnd>
+fn check_content(
+    code: EncodingCodes,
+    content: &[u8],
+    depth: u16,
+    after: usize,
+) -> Result<(), PlaceFromEnd>
     requires fits { length content.now + after < 2 ^ 64 }
     requires below { depth + 1 < 2 ^ 16 }
     ensures ok { OnOk result ((t : Tree) ×
@@ -215,7 +225,12 @@ fn check_items(
 
 // Skips the payload of this code at the start of `bytes`, as an array element.
 #[cycle(skip)]
-fn skip_item(code: EncodingCodes, bytes: &[u8], depth: u16, after: usize) -> Result<&[u8], PlaceFromEnd>
+fn skip_item(
+    code: EncodingCodes,
+    bytes: &[u8],
+    depth: u16,
+    after: usize,
+) -> Result<&[u8], PlaceFromEnd>
     requires fits { length bytes.now + after < 2 ^ 64 }
     ensures ok { IfOk result (λ rest. (t : Tree) ×
         (payload_in (parse_content depth) code bytes.now ≡ Some (t, rest.now))) }

@@ -24,7 +24,11 @@ impl Scanner {
             count,
             end,
             code: 0,
-            descriptor: if kind == PrimitiveType::List { descriptor } else { None },
+            descriptor: if kind == PrimitiveType::List {
+                descriptor
+            } else {
+                None
+            },
         }
     }
 

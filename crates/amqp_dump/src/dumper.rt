@@ -7,7 +7,7 @@ use crate::level::{Level, LevelKind};
 use crate::line::Line;
 use crate::marks::Marks;
 use crate::masks::Masks;
-use crate::options::{OutputFormat, Options};
+use crate::options::{Options, OutputFormat};
 use crate::scanner::Scanner;
 use crate::select::Selector;
 use crate::source::Taking;

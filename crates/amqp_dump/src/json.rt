@@ -268,7 +268,12 @@ fn push_payload(text: &mut String, value: &Value, more: bool) -> Result<(), Faul
 }
 
 // Appends the members `kind` and `value` of a scalar, the bits of a float, and the text of a time.
-fn add_scalar(alloc: Global, text: &mut String, kind: PrimitiveType, value: &Value) -> Result<(), Fault> {
+fn add_scalar(
+    alloc: Global,
+    text: &mut String,
+    kind: PrimitiveType,
+    value: &Value,
+) -> Result<(), Fault> {
     let name = kind.name();
     write!(text, "\"kind\":\"{name}\",\"value\":")?;
     match value {

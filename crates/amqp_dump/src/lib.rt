@@ -37,7 +37,7 @@ pub use hex_reader::HexReader;
 pub use item::{Item, ItemKind};
 pub use kinds::{PrimitiveType, Shape, type_of_code};
 pub use level::{Level, LevelKind};
-pub use options::{OutputFormat, Options};
+pub use options::{Options, OutputFormat};
 pub use scanner::{MAX_DEPTH, Scanner};
 pub use select::Selector;
 pub use source::{Source, Taking, take_byte, take_bytes};

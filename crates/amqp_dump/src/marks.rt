@@ -114,7 +114,12 @@ impl Marks {
         Ok(())
     }
 
-    fn add_opening(&mut self, kind: PrimitiveType, size: u32, levels: &[Level]) -> Result<(), Fault> {
+    fn add_opening(
+        &mut self,
+        kind: PrimitiveType,
+        size: u32,
+        levels: &[Level],
+    ) -> Result<(), Fault> {
         if kind == PrimitiveType::Map {
             self.maps.push(Vec::new(self.alloc))?;
         }

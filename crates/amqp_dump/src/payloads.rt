@@ -106,7 +106,9 @@ impl Scanner {
         code: u8,
         from: usize,
     ) -> Result<(), Fault> {
-        let (_, payload) = source.item_bytes().split_at(from.min(source.item_bytes().len()));
+        let (_, payload) = source
+            .item_bytes()
+            .split_at(from.min(source.item_bytes().len()));
         match bad_payload(kind, code, payload) {
             None => Ok(()),
             Some(at) => {

@@ -105,7 +105,11 @@ pub(crate) fn first_payload(
 }
 
 /// Returns a part of a payload, as a value of its kind.
-pub(crate) fn piece_value(alloc: Global, kind: PrimitiveType, payload: &[u8]) -> Result<Value, Fault> {
+pub(crate) fn piece_value(
+    alloc: Global,
+    kind: PrimitiveType,
+    payload: &[u8],
+) -> Result<Value, Fault> {
     let code = match kind {
         PrimitiveType::String => 0xb1,
         PrimitiveType::Symbol => 0xb3,

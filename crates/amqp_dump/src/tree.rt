@@ -104,7 +104,8 @@ fn push_indent(line: &mut Line, count: usize, depth: usize) -> Result<(), Fault>
 fn indent_of(outer: &[Level]) -> usize {
     let mut count: usize = 0;
     for level in outer {
-        let is_map_value = level.kind == LevelKind::Compound(PrimitiveType::Map) && level.index % 2 == 0;
+        let is_map_value = level.kind == LevelKind::Compound(PrimitiveType::Map)
+            && level.index % 2 == 0;
         count = count.saturating_add(if is_map_value { 4 } else { 2 });
     }
     count

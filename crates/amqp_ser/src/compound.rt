@@ -6,9 +6,9 @@
 pub(crate) mod any_field;
 pub(crate) mod body;
 pub(crate) mod described;
-pub(crate) mod part;
 mod list_field;
 mod map;
+pub(crate) mod part;
 mod results;
 mod sequence;
 mod struct_variant;

@@ -207,8 +207,10 @@ impl OpenCompound {
     {
         // After the first element, `after` contains its constructor.
         let opened = match (self.inner_context, after) {
-            (Context::Unmarked(Position::FirstElement), Context::Unmarked(Position::OtherElement(_))) =>
-                1,
+            (
+                Context::Unmarked(Position::FirstElement),
+                Context::Unmarked(Position::OtherElement(_)),
+            ) => 1,
             _ => 0,
         };
         let sum = add_within(add_within(self.sum, size, MAX_LEN)?, opened, MAX_LEN)?;

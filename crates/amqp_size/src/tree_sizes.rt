@@ -33,7 +33,9 @@ impl SizeSerializer {
         ensures { self.new.context ≡ Unmarked (without_prefix (position_of self.old.context)) }
     {
         match self.context {
-            Context::Unmarked(Position::Value(base)) => self.context = Context::Unmarked(base.position()),
+            Context::Unmarked(Position::Value(base)) => self.context = Context::Unmarked(
+                base.position(),
+            ),
             Context::Unmarked(_) => {}
             context => self.context = Context::Unmarked(context.without_prefix()),
         }

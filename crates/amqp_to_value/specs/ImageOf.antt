@@ -40,6 +40,7 @@ IsImageOf t (Err e) = refuses e t
 abbrev pub error_of : ValueError → Error
 error_of value_error.OutOfMemory = error.OutOfMemory
 error_of value_error.InvalidValue = error.InvalidValue
+error_of (value_error.Padding a b) = error.InvalidValue
 error_of value_error.InvalidFormatCode = error.InvalidFormatCode
 error_of value_error.UnexpectedEof = error.UnexpectedEof
 

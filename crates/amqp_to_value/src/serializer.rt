@@ -24,7 +24,7 @@ use std::mem;
 /// `LAZY_VALUE` must be one encoded value; it becomes the value that its bytes encode.
 ///
 /// # Errors
-/// Methods return a [`ValueError`] of one byte, which `?` converts to `Error`.
+/// Methods return a [`ValueError`], which `?` converts to `Error`.
 ///
 /// # Memory
 /// Between calls, keeps the capacity that described values needed and the descriptors of one failed

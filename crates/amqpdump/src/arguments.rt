@@ -1,6 +1,6 @@
 //! The arguments of the program.
 
-use amqp_dump::{OutputFormat, Options};
+use amqp_dump::{Options, OutputFormat};
 use clap::{Arg, ArgAction, ArgMatches, Command, Error, value_parser};
 use std::alloc::Global;
 

@@ -84,7 +84,7 @@ fn print_encoded_values<R: Read, W: Write>(
 {
     laws::some_byte();
     laws::some_cut();
-    for _frame in 0..u64::MAX {
+    for _encoded in 0..u64::MAX {
         if !print_next(alloc, reader, writer)? {
             return Ok(());
         }

@@ -27,7 +27,10 @@ pub fn once_each_by_order<K: Ord + Drop, V: Drop>(
 }
 
 // Returns, for each entry, the position of its key among the entries before it, if it is there.
-fn key_positions_of<K: Ord, V>(alloc: Global, entries: &[(K, V)]) -> Result<Vec<Option<usize>>, AllocError>
+fn key_positions_of<K: Ord, V>(
+    alloc: Global,
+    entries: &[(K, V)],
+) -> Result<Vec<Option<usize>>, AllocError>
     ensures { IfOk result (λ found. found.items ≡ key_positions K.eq entries.now []) }
 {
     let mut index: BTreeMap<&K, usize> = BTreeMap::new(alloc);

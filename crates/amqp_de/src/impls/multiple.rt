@@ -8,9 +8,9 @@ ghost use Rattle.amqp_de.specs.Results.{Takes, Brings, TakesAll, BringsAll};
 
 use crate::deserialize::Deserialize;
 use crate::fault::Fault;
-use crate::source_kind::SourceKind;
 use crate::held::read_value;
 use crate::source::Source;
+use crate::source_kind::SourceKind;
 use amqp_data::{Array, Multiple};
 use amqp_value::Value;
 use std::alloc::Global;

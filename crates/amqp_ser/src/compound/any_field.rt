@@ -96,7 +96,9 @@ pub(crate) fn serialize_any_field<S: Serializer, T: Serialize>(
 {
     let placeholder = serializer.placeholder();
     let moved = mem::replace(compound, placeholder);
-    let (back, accepted) = serialize_owned_field(serializer, moved, form, described, opened, key, value);
+    let (back, accepted) = serialize_owned_field(
+        serializer, moved, form, described, opened, key, value,
+    );
     *compound = back;
     accepted
 }

@@ -29,7 +29,7 @@ loop-encoded-preserved g c =
 
 pub returns-clause-refused : goal.returns-clause-refused
 returns-clause-refused g c =
-    let n : c.loop-encoded._frame ≡ 2 ^ 64 - 1 = omega arith in
+    let n : c.loop-encoded._encoded ≡ 2 ^ 64 - 1 = omega arith in
     let done = rw n at c.loop-encoded.invariant.done in
     run-finish-refused c.some_cut.ensures c.finish.result _ _ _ _ _ done c.finish.ensures.written c.finish.ensures.more c.finish.ensures.others
 
