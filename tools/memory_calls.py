@@ -5,7 +5,7 @@ A call takes memory
 - where an allocator is passed to it,
 - where it may be refused and its comment names `OutOfMemory`, `AllocError` or `ConvertFault::Memory`, or says "out of memory",
 - where it may be refused as another call of its trait that takes memory, so its comment says,
-- where it serializes_into a serializer, or ends what was fed: so much as the serializer takes.
+- where it serializes into a serializer, or ends a compound: so much as the serializer takes.
 
 A visitor, a reader and a writer are the caller's own: a call that hands them something takes what they take.
 It is public where its crate's root, or a public module of it, hands out its name, or that of its type or trait.
@@ -57,7 +57,7 @@ def items(text):
         found = re.match(r"( {4})?(?:final )?(pub )?(?:final )?(?:const )?fn (\w+)", line)
         if found:
             rest = "\n".join(lines[at:at + 30])
-            signature = re.split(r"\n\s*(?:requires|ensures)\b|\{\n|;\n", rest)[0]
+            signature = re.split(r"\n\s*(?:requires|ensures)\b|\{\}?\n|;\n", rest)[0]
             inherent = holder and not trait_impl and "trait" not in holder
             if found[2] or (found[1] and not inherent):
                 yield holder if found[1] else "", found[3], signature, "\n".join(comment)
@@ -83,9 +83,9 @@ def takes_memory(signature, comment):
 
 
 def serializes_into(arguments, answer):
-    """Whether a serializer is fed a value or a part, or what was fed to it is ended."""
-    fed = r"\bT: Serialize\b|\bK: Serialize\b|\bS: Serializer\b|: (?:&mut )?Self::Open|fn end\("
-    return bool(re.search(r"\b(S|Self)::Error\b", answer) and re.search(fed, arguments))
+    """Whether the call gives a value or a part to a serializer, or ends a compound."""
+    given = r"\bT: Serialize\b|\bK: Serialize\b|\bS: Serializer\b|: (?:&mut )?Self::Open|fn end\("
+    return bool(re.search(r"\b(S|Self)::Error\b", answer) and re.search(given, arguments))
 
 
 def same_as(comment):
