@@ -194,7 +194,8 @@ where
     ensures read { IfOk result (λ r. OnNamed (F.reads fields r.0) (S.value source)
         × S.left source r.1) }
     ensures array { IfOk result (λ _. (ts : Trees) × (S.value source ≡ array ts)) }
-    ensures err { IfErr result (λ e. S.is_whole source → form.Array ≡ source_kind_of (S.value source) →
+    ensures err { IfErr result (λ e. S.is_whole source →
+        form.Array ≡ source_kind_of (S.value source) →
         IsMemory e ⊎ ((x : F.Values) → ¬ OnNamed (F.reads fields x) (S.value source))) }
 {
     let (elements, rest) = match source.array() {

@@ -14,8 +14,8 @@ use std::alloc::Global;
 /// Reads a symbol, for a type whose values are some short ASCII texts.
 ///
 /// # Errors
-/// Returns an error other than out of memory only if the value is no symbol of a short ASCII text, or if
-/// the source is of bytes that were not checked before.
+/// Returns an error other than out of memory only if the value is no symbol of a short ASCII text,
+/// or if the source is of bytes that were not checked before.
 ///
 /// # Memory
 /// Allocates the text.
@@ -34,8 +34,8 @@ pub fn read_symbol<S: Source>(alloc: Global, source: S) -> Result<(Symbol, S::Re
 /// Reads a string, for a type whose values are some short ASCII texts.
 ///
 /// # Errors
-/// Returns an error other than out of memory only if the value is no string of a short ASCII text, or if
-/// the source is of bytes that were not checked before.
+/// Returns an error other than out of memory only if the value is no string of a short ASCII text,
+/// or if the source is of bytes that were not checked before.
 ///
 /// # Memory
 /// Allocates the text.

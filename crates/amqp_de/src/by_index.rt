@@ -84,8 +84,8 @@ fn not_an_enum(value: Value) -> Fault
     Fault::other(None, found)
 }
 
-// Reads the variant with this index, the first of its list or map, and value, the last of this number
-// of values that were taken.
+// Reads the variant with this index, the first of its list or map, and value, the last of this
+// number of values that were taken.
 fn read_at<V: Variants>(
     alloc: Global,
     variants: V,

@@ -7,7 +7,8 @@ ghost use Rattle.std.specs.Map.{keys_of};
 ghost use Rattle.amqp_ser.specs.Tree.{Tree};
 ghost use Rattle.amqp_de.specs.Maps.{AreApart};
 ghost use Rattle.amqp_de.specs.Reads.{Always};
-ghost use Rattle.amqp_de.specs.Results.{IsMemory, Takes, Brings, TakesAll, BringsAll, ReadsAndRestores};
+ghost use Rattle.amqp_de.specs.Results.{IsMemory, Takes, Brings, TakesAll, BringsAll};
+ghost use Rattle.amqp_de.specs.Results.{ReadsAndRestores};
 
 use crate::fault::Fault;
 use crate::room::first_item;
@@ -29,9 +30,10 @@ fn ended<T: Drop, S: Source>(elements: S::Elements, values: Vec<T>) -> Result<Ve
 /// A type that is read from any source.
 ///
 /// # Implementer notes
-/// Required method: `read`. Its value is one that `reads` relates to the tree (`read`), and from the
-/// image of a restorable value it is `same` as that value, or an allocation fails (`law`). A newtype
-/// calls the `read` of its content, as `Box` does; `have_distinct_trees` is for keys of maps.
+/// Required method: `read`. Its value is one that `reads` relates to the tree (`read`), and from
+/// the image of a restorable value it is `same` as that value, or an allocation fails (`law`). A
+/// newtype calls the `read` of its content, as `Box` does; `have_distinct_trees` is for keys of
+/// maps.
 pub trait Deserialize: Sized + Drop {
     /// Which trees are read as which values.
     ghost reads: { Tree → Self → Type 0 };

@@ -154,13 +154,15 @@ pub(crate) fn read_elements<F: Field, R: FieldSeeds, S: Source>(
     others: &R,
     elements: S::Elements,
 ) -> Result<FieldValues<F::Value, R::Values>, Fault>
-    ensures ok { IfOk result (ReadsElements (ReadsFields F.absent name.now F.reads (R.reads others.now))
+    ensures ok { IfOk result
+        (ReadsElements (ReadsFields F.absent name.now F.reads (R.reads others.now))
         (images_of_fields F.present F.image R.images) (RestorableFields F.restorable R.restorable)
         (SameFields F.same R.same) (S.holds elements)) }
     ensures err { IfErr result (λ e. S.are_whole elements → IsMemory e
         ⊎ ((x : FieldValues F.Value R.Values) →
         ¬ ReadsFields F.absent name.now F.reads (R.reads others.now) x (by_position (S.items elements)))) }
-    ensures law { (x : FieldValues F.Value R.Values) → RestorableFields F.restorable R.restorable x →
+    ensures law { (x : FieldValues F.Value R.Values) →
+        RestorableFields F.restorable R.restorable x →
         EndsEarly (images_of_fields F.present F.image R.images x) (S.items elements) →
         IfErr result (λ e. S.are_whole elements → IsMemory e) }
 {
@@ -191,7 +193,8 @@ pub(crate) fn read_entries<F: Field, R: FieldSeeds, S: Source>(
     ensures err { IfErr result (λ e. S.pairs_whole entries → IsMemory e
         ⊎ ((x : FieldValues F.Value R.Values) →
         ¬ ReadsFields F.absent name.now F.reads (R.reads others.now) x (by_name (S.pairs entries)))) }
-    ensures law { (x : FieldValues F.Value R.Values) → RestorableFields F.restorable R.restorable x →
+    ensures law { (x : FieldValues F.Value R.Values) →
+        RestorableFields F.restorable R.restorable x →
         distinct_names (name.now ∷ R.names others.now) ≡ true →
         S.pairs entries ≡ present_fields (name.now ∷ R.names others.now)
         (images_of_fields F.present F.image R.images x) →

@@ -28,8 +28,8 @@ pub(crate) fn path_around(path: usize, count_read: Option<usize>) -> usize
     }
 }
 
-/// Returns the offset of the part at this index of the list, array or map with this path; without an
-/// index, that of the value of the key with this name.
+/// Returns the offset of the part at this index of the list, array or map with this path; without
+/// an index, that of the value of the key with this name.
 pub(crate) fn offset_of(
     bytes: &[u8],
     path: usize,

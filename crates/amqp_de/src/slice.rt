@@ -51,15 +51,15 @@ pub fn from_value<T: Deserialize>(alloc: Global, value: Value) -> Result<T, Erro
 /// Reads a `T` from the value, like [`from_value`], and says which field could not be read.
 ///
 /// # Errors
-/// Returns the error of `from_value`, the name or the position of the innermost field or element that
-/// could not be read, its type and the type that is read. The value is dropped.
+/// Returns the error of `from_value`, the name or the position of the innermost field or element
+/// that could not be read, its type and the type that is read. The value is dropped.
 ///
 /// # Memory
 /// Allocates from `alloc` what `from_value` allocates.
 ///
 /// # Example
-/// As a struct of the fields `id` and `size`, both a `u32`, the list of the uint 1 and the string `a`
-/// gives `FaultKind::Invalid` with the field `size`, the index 1, `ValueKind::Uint` wanted and
+/// As a struct of the fields `id` and `size`, both a `u32`, the list of the uint 1 and the string
+/// `a` gives `FaultKind::Invalid` with the field `size`, the index 1, `ValueKind::Uint` wanted and
 /// `ValueKind::String` found.
 pub fn from_value_located<T: Deserialize>(alloc: Global, value: Value) -> Result<T, Fault>
     ensures read { Answers IsMemory (T.reads (tree_of value)) result }
@@ -78,9 +78,9 @@ pub fn from_value_located<T: Deserialize>(alloc: Global, value: Value) -> Result
 /// depth of 256. `T` determines which values are read.
 ///
 /// # Errors
-/// Returns the errors of `decode_value` if the bytes are not one encoded value, or if bytes are left
-/// over, and otherwise the errors of `from_value`. An error other than `OutOfMemory` is returned
-/// only if the bytes encode no value of which a `T` can be read.
+/// Returns the errors of `decode_value` if the bytes are not one encoded value, or if bytes are
+/// left over, and otherwise the errors of `from_value`. An error other than `OutOfMemory` is
+/// returned only if the bytes encode no value of which a `T` can be read.
 ///
 /// # Memory
 /// Allocates the `T` from `alloc`, without an untyped value. If that fails, what it allocated is

@@ -1,11 +1,13 @@
 //! Sources of one value, which reading consumes.
 
-ghost use Rattle.std.specs.Prelude.{◌≡◌, ◌⊎◌, ◌<◌, ◌≤◌, ℕ, List, [], ◌∷◌, Bool, true, not, ◌&&◌, IsTrue, IfOk, IfErr, IfSome, IfNone, Some, None};
+ghost use Rattle.std.specs.Prelude.{◌≡◌, ◌⊎◌, ◌<◌, ◌≤◌, ℕ, List, [], ◌∷◌, Bool, true, not, ◌&&◌};
+ghost use Rattle.std.specs.Prelude.{IsTrue, IfOk, IfErr, IfSome, IfNone, Some, None};
 ghost use Rattle.std.specs.Bool.{OnTrue};
 ghost use Rattle.std.specs.List.{AllZip};
 ghost use Rattle.std.specs.Map.{keys_of};
 ghost use Rattle.amqp_ser.specs.Carried.{descriptor_content};
-ghost use Rattle.amqp_ser.specs.Tree.{Tree, Trees, Pairs, Scalar, Descriptor as AnyDescriptor, scalar, null, list, array, map, described, trees_of};
+ghost use Rattle.amqp_ser.specs.Tree.{Tree, Trees, Pairs, Scalar, Descriptor as AnyDescriptor};
+ghost use Rattle.amqp_ser.specs.Tree.{scalar, null, list, array, map, described, trees_of};
 ghost use Rattle.amqp_value.specs.TreeOf.{tree_of, pairs_of};
 ghost use Rattle.amqp_de.specs.Maps.{AreApart};
 ghost use Rattle.amqp_de.specs.SourceKinds.{HasSourceKind};
@@ -70,7 +72,8 @@ pub trait Source: Sized + Drop {
     ghost waits_pair: { Self.Entries → Self.Rest → List (Tree × Tree) → Type 0 };
 
     /// The same, after a key, of which this is left: the value and the entries after it.
-    ghost waits_value: { Self.Entries → Self.Pending → Self.Rest → Tree → List (Tree × Tree) → Type 0 };
+    ghost waits_value: { Self.Entries → Self.Pending → Self.Rest → Tree → List (Tree × Tree) →
+        Type 0 };
 
     /// The entries, if it is known that there are values.
     ghost pairs: { Self.Entries → List (Tree × Tree) };
@@ -103,7 +106,8 @@ pub trait Source: Sized + Drop {
     /// Whether it is null.
     fn is_null(&self) -> bool
         ensures null { IsTrue result → value self.now ≡ scalar null }
-        ensures other { (r : Self.Rest) → left self.now r → value self.now ≡ scalar null → IsTrue result }
+        ensures other { (r : Self.Rest) → left self.now r → value self.now ≡ scalar null →
+            IsTrue result }
         ensures whole { is_whole self.now → value self.now ≡ scalar null → IsTrue result };
 
     /// What kind of value it probably is; `Other`, as here, if the source does not know it.
@@ -117,11 +121,13 @@ pub trait Source: Sized + Drop {
     /// Takes null.
     fn null(self) -> Result<Self::Rest, Fault>
         ensures ok { IfOk result (λ r. left self r × (value self ≡ scalar null)) }
-        ensures err { IfErr result (λ e. is_whole self → IsMemory e ⊎ (¬ (value self ≡ scalar null))) };
+        ensures err { IfErr result (λ e. is_whole self → IsMemory e
+            ⊎ (¬ (value self ≡ scalar null))) };
 
     /// Reads a scalar of this kind.
     fn scalar<K: Scalar>(self, alloc: Global) -> Result<(K, Self::Rest), Fault>
-        ensures { Takes (λ t x. t ≡ scalar (K.content x)) (value self) (is_whole self) (left self) result };
+        ensures { Takes (λ t x. t ≡ scalar (K.content x)) (value self) (is_whole self)
+            (left self) result };
 
     /// Reads the value as an untyped one.
     fn untyped(self, alloc: Global) -> Result<(Value, Self::Rest), Fault>
@@ -257,12 +263,14 @@ pub trait Source: Sized + Drop {
 
     /// Goes on after the value of an entry.
     fn resume_entries(entries: &mut Self::Entries, rest: Self::Rest)
-        ensures holds { (ps : List (Tree × Tree)) → holds_pairs entries.new ps → waits_pair entries.old rest ps }
+        ensures holds { (ps : List (Tree × Tree)) → holds_pairs entries.new ps →
+            waits_pair entries.old rest ps }
         ensures number { pair_number entries.new ≡ pair_number entries.old }
         ensures whole { pairs_whole entries.old →
             pairs_whole entries.new × (pairs entries.new ≡ pairs entries.old) };
 
-    /// Takes the value of the key with this name. A value finds it in any order, and bytes only if it is the next.
+    /// Takes the value of the key with this name. A value finds it in any order, and bytes only if
+    /// it is the next.
     fn take_named(entries: &mut Self::Entries, name: &str) -> Option<Self>
         ensures some { IfSome result (λ s. (r : Self.Rest) (ps : List (Tree × Tree)) →
             left s r → waits_pair entries.new r ps →
@@ -276,7 +284,8 @@ pub trait Source: Sized + Drop {
         ensures none { IfNone result ((ps : List (Tree × Tree)) →
             holds_pairs entries.new ps → holds_pairs entries.old ps
             × ((ns : List (List ℕ)) → only ns ps → only (name.now ∷ ns) ps
-            × (needs (not (has_name name.now ns)) → (value_at name.now ps ≡ None) × (without name.now ps ≡ ps)))) }
+            × (needs (not (has_name name.now ns)) → (value_at name.now ps ≡ None)
+            × (without name.now ps ≡ ps)))) }
         ensures none_whole { IfNone result (pairs_whole entries.old → pairs_whole entries.new
             × (value_at name.now (pairs entries.old) ≡ None)
             × (pairs entries.new ≡ without name.now (pairs entries.old))) }
@@ -285,7 +294,8 @@ pub trait Source: Sized + Drop {
 
     /// Ends a map. A value ignores further entries, and bytes may have none.
     fn close_entries(entries: Self::Entries) -> Result<(), Fault>
-        ensures ok { IfOk result (λ _. (ps : List (Tree × Tree)) × holds_pairs entries ps × only [] ps) }
+        ensures ok { IfOk result (λ _. (ps : List (Tree × Tree)) × holds_pairs entries ps
+            × only [] ps) }
         ensures err { IfErr result (λ e. pairs_whole entries → IsMemory e) };
 
     /// The number of entries that were taken, if it is known.

@@ -83,8 +83,8 @@ impl Variants for () {
         _index: u32,
         _source: S,
     ) -> Result<(Never, S::Rest), Fault> {
-        // The place is that of the index. What `read_at` adds is the place of the value, which is no
-        // way to it: so there is no path.
+        // The place is that of the index. What `read_at` adds is the place of the value, which is
+        // no way to it: so there is no path.
         Err(
             Fault::other(None, ValueKind::Uint)
                 .after(Some(1))

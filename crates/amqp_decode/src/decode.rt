@@ -26,10 +26,10 @@ use std::alloc::Global;
 /// is described (section 1.2) is not accepted.
 ///
 /// # Errors
-/// Returns the error of the first fault, in the order of the bytes. Returns `InvalidFormatCode` if a
-/// byte is not a format code where one is required. Returns `UnexpectedEof` if the bytes or a
-/// payload end too early. Returns `InvalidValue` if bytes are left over, and for every other invalid
-/// input. Returns `OutOfMemory` if an allocation fails.
+/// Returns the error of the first fault, in the order of the bytes. Returns `InvalidFormatCode` if
+/// a byte is not a format code where one is required. Returns `UnexpectedEof` if the bytes or a
+/// payload end too early. Returns `InvalidValue` if bytes are left over, and for every other
+/// invalid input. Returns `OutOfMemory` if an allocation fails.
 ///
 /// # Memory
 /// Allocates from `alloc`. A list of at most 64 elements reserves memory for all of them before the

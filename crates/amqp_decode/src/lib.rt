@@ -1,9 +1,9 @@
 //! Decodes the bytes of one encoded value into an untyped value.
 //!
 //! Every encoding of AMQP data is accepted, not only the one that this library writes: short and
-//! long forms, also as elements of arrays. One relation defines which bytes encode which tree. `decode_value`
-//! returns the value that the bytes encode by this relation, and an error if they encode none or an
-//! allocation fails.
+//! long forms, also as elements of arrays. One relation defines which bytes encode which tree.
+//! `decode_value` returns the value that the bytes encode by this relation, and an error if they
+//! encode none or an allocation fails.
 #![tactic(auto)]
 
 mod decode;

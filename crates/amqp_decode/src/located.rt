@@ -38,12 +38,12 @@ pub struct Located {
 /// If decoding fails, the bytes are read once more, without a value.
 ///
 /// # Errors
-/// Returns the error of `decode_value`, with the place of the first fault in the order of the bytes.
-/// A byte that is no format code, the first byte of a value that is too deep, and the code of a
-/// descriptor of another kind are such places. Bytes that end too early have the fault at their
-/// end, and a payload that ends too early at the byte after it. An odd count of a map has it at its
-/// last byte, a scalar at its first byte or at the first character that is not UTF-8, and bytes left
-/// over at the first of them.
+/// Returns the error of `decode_value`, with the place of the first fault in the order of the
+/// bytes. A byte that is no format code, the first byte of a value that is too deep, and the code
+/// of a descriptor of another kind are such places. Bytes that end too early have the fault at
+/// their end, and a payload that ends too early at the byte after it. An odd count of a map has it
+/// at its last byte, a scalar at its first byte or at the first character that is not UTF-8, and
+/// bytes left over at the first of them.
 ///
 /// # Memory
 /// Allocates from `alloc` as `decode_value` does. The place is found without memory.
@@ -71,8 +71,8 @@ pub fn decode_value_located(alloc: Global, bytes: &[u8]) -> Result<Value, Locate
 /// If the bytes have a fault, they are read once more, without a value.
 ///
 /// # Errors
-/// Returns the error of `decode_value_limited`: with the place that `decode_value_located` describes
-/// if the bytes have a fault, and without a place if it is `TooLong` or out of memory.
+/// Returns the error of `decode_value_limited`: with the place that `decode_value_located`
+/// describes if the bytes have a fault, and without a place if it is `TooLong` or out of memory.
 ///
 /// # Memory
 /// Allocates from `alloc` as `decode_value_limited` does. The place is found without memory.
@@ -123,8 +123,8 @@ fn with_place(error: Error, bytes: &[u8]) -> Located
     Located { error, place }
 }
 
-/// Returns where bytes that are not one encoded value have their first fault, and `None` if they are
-/// one.
+/// Returns where bytes that are not one encoded value have their first fault, and `None` if they
+/// are one.
 ///
 /// # Memory
 /// Allocates nothing.

@@ -1,8 +1,10 @@
-//! Reads scalars, and the headers of lists, maps, arrays and described values, from the start of bytes.
+//! Reads scalars, and the headers of lists, maps, arrays and described values, from the start of
+//! bytes.
 //!
 //! Each function takes a format code that has been read and the bytes after it, and returns what it
 //! read with the bytes that are left. It accepts every form of a value, and fails with `GaveUp`
-//! otherwise. A caller that gives up calls `decode_value`, which returns an error that has a meaning.
+//! otherwise. A caller that gives up calls `decode_value`, which returns an error that has a
+//! meaning.
 
 mod bytes;
 mod compounds;

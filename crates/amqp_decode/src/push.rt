@@ -1,6 +1,7 @@
 //! Reads the common scalars of fixed width as elements of a list.
 
-ghost use Rattle.std.specs.Prelude.{◌≡◌, ◌∷◌, ◌++◌, [], ◌<◌, IfSome, IfNone, Some, vec_len, vec_capacity};
+ghost use Rattle.std.specs.Prelude.{◌≡◌, ◌∷◌, ◌++◌, [], ◌<◌, IfSome, IfNone, Some, vec_len};
+ghost use Rattle.std.specs.Prelude.{vec_capacity};
 ghost use Rattle.amqp_value.specs.TreeOf.{tree_of};
 ghost use Rattle.amqp_value.specs.declared.value.Value.{Value};
 ghost use Rattle.amqp_decode.specs.Parsed.{ValueReader, ContentReader, value_in_bytes};
@@ -41,8 +42,8 @@ const DOUBLE: u8 = EncodingCodes::Double as u8;
 
 const TIMESTAMP: u8 = EncodingCodes::Timestamp as u8;
 
-/// Reads the scalar of this code whose payload is at the start of `bytes`, appends it to `list`, and
-/// returns the bytes after it.
+/// Reads the scalar of this code whose payload is at the start of `bytes`, appends it to `list`,
+/// and returns the bytes after it.
 ///
 /// Returns `None` and leaves the list if the code is that of no common scalar, or the bytes end too
 /// early. Each code has an arm of its own, in which the value is stored directly.

@@ -1,13 +1,20 @@
 //! Reads an encoded value, recursively, from its first byte on.
 
-ghost use Rattle.std.specs.Prelude.{◌≡◌, [], ◌∷◌, ◌++◌, ◌<◌, ℕ, IfOk, OnOk, IfErr, Some, None, map, vec_len, vec_capacity};
+ghost use Rattle.std.specs.Prelude.{◌≡◌, [], ◌∷◌, ◌++◌, ◌<◌, ℕ, IfOk, OnOk, IfErr, Some, None, map};
+ghost use Rattle.std.specs.Prelude.{vec_len, vec_capacity};
 ghost use Rattle.amqp_data.specs.declared.error.Error.TheVariants.{OutOfMemory, TooLong};
 ghost use Rattle.amqp_value.specs.TreeOf.{tree_of};
 ghost use Rattle.amqp_value.specs.declared.value.Value.{Value};
 ghost use Rattle.amqp_decode.specs.Scalars.{and_then};
-ghost use Rattle.amqp_decode.specs.WithoutBytes.{Spends, content_around, content_without_bytes, elements_without_bytes, value_around, in_array, in_payload, sum_of};
-ghost use Rattle.amqp_decode.specs.Parsed.{all, gather, parse, parse_content, payload_in, content_of, value_in_bytes, parse_list, parse_map, parse_array};
-ghost use Rattle.amqp_decode.specs.Faults.{FailsBy, content_fault, fault_around, fault_in, fault_in_item, fault_of_array, fault_of_map, fault_of_payload, fault_of_values};
+ghost use Rattle.amqp_decode.specs.WithoutBytes.{Spends, content_around, content_without_bytes};
+ghost use Rattle.amqp_decode.specs.WithoutBytes.{elements_without_bytes, value_around, in_array};
+ghost use Rattle.amqp_decode.specs.WithoutBytes.{in_payload, sum_of};
+ghost use Rattle.amqp_decode.specs.Parsed.{all, gather, parse, parse_content, payload_in};
+ghost use Rattle.amqp_decode.specs.Parsed.{content_of, value_in_bytes, parse_list, parse_map};
+ghost use Rattle.amqp_decode.specs.Parsed.{parse_array};
+ghost use Rattle.amqp_decode.specs.Faults.{FailsBy, content_fault, fault_around, fault_in};
+ghost use Rattle.amqp_decode.specs.Faults.{fault_in_item, fault_of_array, fault_of_map};
+ghost use Rattle.amqp_decode.specs.Faults.{fault_of_payload, fault_of_values};
 
 use crate::fixed::read_fixed;
 use crate::limit::spend_items;
@@ -34,9 +41,9 @@ const LONG_STRING: u8 = EncodingCodes::Str32 as u8;
 
 const LONG_LIST: u8 = EncodingCodes::List32 as u8;
 
-// Reads the first encoded value of `bytes`, and leaves the bytes after it. Its array elements without
-// bytes are taken from `limit`, and more than that fail with `TooLong`. The counts of lists and maps
-// reserve memory for at most `spare` elements, keys and values.
+// Reads the first encoded value of `bytes`, and leaves the bytes after it. Its array elements
+// without bytes are taken from `limit`, and more than that fail with `TooLong`. The counts of lists
+// and maps reserve memory for at most `spare` elements, keys and values.
 pub fn read_encoded_value(
     alloc: Global,
     bytes: &mut &[u8],
@@ -118,8 +125,8 @@ pub fn read_after_code(
     }
 }
 
-// Like `read_after_code`, after the code of a described value: in a separate function, so that other
-// values need no stack space for it, which is cleared.
+// Like `read_after_code`, after the code of a described value: in a separate function, so that
+// other values need no stack space for it, which is cleared.
 #[cycle(read)]
 #[inline(never)]
 fn read_described(
@@ -358,7 +365,8 @@ fn decode_array(
         parse_array (parse_content depth) (count, body.now) ≡ None) }
     ensures limit { Spends result limit.old limit.new
         (in_array (content_without_bytes depth) (parse_content depth) (count, body.now)) }
-    ensures fault { FailsBy (fault_of_array (fault_in_item depth) (parse_content depth) (count, body.now)) result }
+    ensures fault { FailsBy (fault_of_array (fault_in_item depth) (parse_content depth)
+        (count, body.now)) result }
 {
     match body.split_first() {
         None if count == 0 => Ok(Value::Array(Array::from(Vec::new(alloc)))),
@@ -388,11 +396,13 @@ fn read_items(
         and_then (gather (payload_in (parse_content depth) code) count payloads.now []) all
         ≡ Some (map tree_of v.items)) }
     ensures err { IfErr result (λ e. ¬ (e ≡ OutOfMemory) → ¬ (e ≡ TooLong) →
-        and_then (gather (payload_in (parse_content depth) code) count payloads.now []) all ≡ None) }
+        and_then (gather (payload_in (parse_content depth) code) count payloads.now []) all
+        ≡ None) }
     ensures limit { Spends result limit.old limit.new
         (sum_of (in_payload (content_without_bytes depth) code)
         (payload_in (parse_content depth) code) count payloads.now) }
-    ensures fault { FailsBy (fault_of_values (fault_in_item depth code) (payload_in (parse_content depth) code) count payloads.now) result }
+    ensures fault { FailsBy (fault_of_values (fault_in_item depth code)
+        (payload_in (parse_content depth) code) count payloads.now) result }
 {
     let mut items = Vec::new(alloc);
     let mut rest = payloads;

@@ -32,8 +32,8 @@ pub fn reserved(count: u32, body: &[u8], spare: usize) -> usize
 }
 
 /// Returns for how many keys and values of a map memory is reserved before they are read: twice the
-/// capacity that a vector has after as many insertions, a power of two and at least 4 entries, for a
-/// map of at most 64.
+/// capacity that a vector has after as many insertions, a power of two and at least 4 entries, for
+/// a map of at most 64.
 ///
 /// A count that is larger than the body reserves nothing; nor does one for which more than `spare`
 /// would be reserved.

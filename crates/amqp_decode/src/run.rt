@@ -31,7 +31,8 @@ pub fn read_run(
 ) -> Result<u32, AllocError>
     ensures ok { IfOk result (λ left.
         gather (payload_in (parse_content depth) code) left bytes.new.now (map tree_of items.new.items)
-        ≡ gather (payload_in (parse_content depth) code) count bytes.old.now (map tree_of items.old.items)) }
+        ≡ gather (payload_in (parse_content depth) code) count bytes.old.now
+        (map tree_of items.old.items)) }
     ensures none { IfOk result (λ left.
         sum_of (in_payload (content_without_bytes depth) code)
         (payload_in (parse_content depth) code) left bytes.new.now
@@ -104,7 +105,8 @@ fn read_fixed_run(
     requires { 0 < depth }
     ensures ok { IfOk result (λ left.
         gather (payload_in (parse_content depth) code) left bytes.new.now (map tree_of items.new.items)
-        ≡ gather (payload_in (parse_content depth) code) count bytes.old.now (map tree_of items.old.items)) }
+        ≡ gather (payload_in (parse_content depth) code) count bytes.old.now
+        (map tree_of items.old.items)) }
     ensures none { IfOk result (λ left.
         sum_of (in_payload (content_without_bytes depth) code)
         (payload_in (parse_content depth) code) left bytes.new.now

@@ -2,11 +2,13 @@
 
 ghost use Rattle.std.specs.Prelude.{◌≡◌, IfOk, IfErr, Some, None, true, false, string_bytes};
 ghost use Rattle.std.specs.Str.{is_utf8};
-ghost use Rattle.amqp_data.specs.declared.error.Error.TheVariants.{InvalidValue, OutOfMemory, TooLong};
+ghost use Rattle.amqp_data.specs.declared.error.Error.TheVariants.{InvalidValue, OutOfMemory};
+ghost use Rattle.amqp_data.specs.declared.error.Error.TheVariants.{TooLong};
 ghost use Rattle.amqp_ser.specs.Carried.{descriptor_content};
 ghost use Rattle.amqp_ser.specs.Tree.{scalar};
 ghost use Rattle.amqp_value.specs.TreeOf.{tree_of};
-ghost use Rattle.amqp_decode.specs.Scalars.{and_then, single, exact, truth, character, scalar_in, scalar_tree};
+ghost use Rattle.amqp_decode.specs.Scalars.{and_then, single, exact, truth, character, scalar_in};
+ghost use Rattle.amqp_decode.specs.Scalars.{scalar_tree};
 ghost use Rattle.amqp_decode.specs.Parsed.{tree_descriptor, descriptor_at};
 ghost use Rattle.amqp_decode.specs.Faults.{FailsBy, fault_of_descriptor};
 

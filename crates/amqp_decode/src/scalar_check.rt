@@ -1,11 +1,13 @@
 //! Checks scalars and descriptors, without a value.
 
-ghost use Rattle.std.specs.Prelude.{◌≡◌, ◌+◌, ◌<◌, ◌≤◌, ◌^◌, IfOk, IfErr, OnOk, OnErr, Some, None, true, false, is_some, length};
+ghost use Rattle.std.specs.Prelude.{◌≡◌, ◌+◌, ◌<◌, ◌≤◌, ◌^◌, IfOk, IfErr, OnOk, OnErr, Some, None};
+ghost use Rattle.std.specs.Prelude.{true, false, is_some, length};
 ghost use Rattle.std.specs.Int.{from_be_bytes, w32};
 ghost use Rattle.std.specs.Str.{is_utf8};
 ghost use Rattle.amqp_ser.specs.Tree.{Descriptor, Scalar};
 ghost use Rattle.amqp_decode.specs.Parsed.{descriptor_at};
-ghost use Rattle.amqp_decode.specs.Places.{is_text, names_descriptor, place_of_descriptor, place_of_scalar, place_of_text};
+ghost use Rattle.amqp_decode.specs.Places.{is_text, names_descriptor, place_of_descriptor};
+ghost use Rattle.amqp_decode.specs.Places.{place_of_scalar, place_of_text};
 ghost use Rattle.amqp_decode.specs.PlaceAt.{IsAt};
 ghost use Rattle.amqp_decode.specs.Scalars.{and_then, character, exact, scalar_in, single, truth};
 

@@ -1,18 +1,22 @@
 //! Skips encoded values and finds their first fault. Nothing is allocated.
 
-ghost use Rattle.std.specs.Prelude.{◌≡◌, [], ◌∷◌, ◌+◌, ◌-◌, ◌<◌, ◌≤◌, ◌^◌, IfOk, IfErr, OnOk, OnErr, Some, None, length};
+ghost use Rattle.std.specs.Prelude.{◌≡◌, [], ◌∷◌, ◌+◌, ◌-◌, ◌<◌, ◌≤◌, ◌^◌, IfOk, IfErr, OnOk};
+ghost use Rattle.std.specs.Prelude.{OnErr, Some, None, length};
 ghost use Rattle.amqp_ser.specs.Tree.{Tree};
-ghost use Rattle.amqp_decode.specs.Parsed.{content_of, value_in_bytes, parse, parse_array, parse_content, payload_in};
+ghost use Rattle.amqp_decode.specs.Parsed.{content_of, value_in_bytes, parse, parse_array};
+ghost use Rattle.amqp_decode.specs.Parsed.{parse_content, payload_in};
 ghost use Rattle.amqp_decode.specs.PlaceAt.{IsAt};
-ghost use Rattle.amqp_decode.specs.Places.{content_place, skips, place_around, place_in, place_in_item, place_of_array, place_of_payload, place_of_values};
+ghost use Rattle.amqp_decode.specs.Places.{content_place, skips, place_around, place_in};
+ghost use Rattle.amqp_decode.specs.Places.{place_in_item, place_of_array, place_of_payload};
+ghost use Rattle.amqp_decode.specs.Places.{place_of_values};
 
 use crate::payload::{read_count, read_payload};
 use crate::payload_shape::{PayloadShape, has_no_payload, payload_shape, primitive_code};
 use crate::scalar_check::{PlaceFromEnd, check_scalar, skip_descriptor};
 use amqp_data::EncodingCodes;
 
-// Skips the first encoded value of `bytes`, with at most `depth` levels, and returns the bytes after
-// it. There are `after` bytes after those in the input.
+// Skips the first encoded value of `bytes`, with at most `depth` levels, and returns the bytes
+// after it. There are `after` bytes after those in the input.
 #[cycle(skip)]
 fn skip_value(bytes: &[u8], depth: u16, after: usize) -> Result<&[u8], PlaceFromEnd>
     requires fits { length bytes.now + after < 2 ^ 64 }
@@ -75,7 +79,8 @@ fn skip_payload(
     ensures err { OnErr result
         (payload_in (content_of (parse (depth - 1)) (parse_content (depth - 1))) code bytes.now
         ≡ None) }
-    ensures from_end { IfErr result (λ p. IsAt p (place_of_payload (content_place (depth - 1)) depth code after bytes.now)) }
+    ensures from_end { IfErr result
+        (λ p. IsAt p (place_of_payload (content_place (depth - 1)) depth code after bytes.now)) }
 {
     let Ok((content, rest)) = read_payload(code, bytes) else {
         return Err(PlaceFromEnd {
@@ -147,7 +152,8 @@ pub fn check_values(count: u32, body: &[u8], depth: u16, after: usize) -> Result
     requires fits { length body.now + after < 2 ^ 64 }
     ensures ok { OnOk result (skips (parse depth) count body.now ≡ Some []) }
     ensures err { OnErr result (¬ (skips (parse depth) count body.now ≡ Some [])) }
-    ensures from_end { IfErr result (λ p. IsAt p (place_of_values (place_in depth) (parse depth) depth count after body.now)) }
+    ensures from_end { IfErr result
+        (λ p. IsAt p (place_of_values (place_in depth) (parse depth) depth count after body.now)) }
 {
     let mut rest = body;
     for _ in 0..count {
@@ -171,7 +177,9 @@ fn check_array(count: u32, body: &[u8], depth: u16, after: usize) -> Result<(), 
     ensures ok { OnOk result ((t : Tree) ×
         (parse_array (parse_content depth) (count, body.now) ≡ Some t)) }
     ensures err { OnErr result (parse_array (parse_content depth) (count, body.now) ≡ None) }
-    ensures from_end { IfErr result (λ p. IsAt p (place_of_array (place_in_item depth) (parse_content depth) depth after (count, body.now))) }
+    ensures from_end { IfErr result
+        (λ p. IsAt p (place_of_array (place_in_item depth) (parse_content depth) depth after
+        (count, body.now))) }
 {
     let here = PlaceFromEnd {
         left: body.len() + after,

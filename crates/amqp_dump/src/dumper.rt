@@ -56,8 +56,8 @@ struct Dumper {
 /// # Errors
 ///
 /// Returns [`Fault::Input`] if a read fails, [`Fault::Output`] if a write fails, and
-/// [`Fault::OutOfMemory`] if an allocation fails. What was shown before is written first. A fault of
-/// the input is no error: it is shown, and counted in the report.
+/// [`Fault::OutOfMemory`] if an allocation fails. What was shown before is written first. A fault
+/// of the input is no error: it is shown, and counted in the report.
 ///
 /// # Memory
 ///

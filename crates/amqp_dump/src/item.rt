@@ -19,8 +19,8 @@ pub struct Item {
 pub enum ItemKind {
     /// The end of the input. It has no bytes.
     End,
-    /// The code 00 and the descriptor, if it is a ulong or a short symbol: then its numeric code, if
-    /// it is known.
+    /// The code 00 and the descriptor, if it is a ulong or a short symbol: then its numeric code,
+    /// if it is known.
     Described(Option<u64>),
     /// The code 00 alone. The descriptor comes next, as a value.
     Reserved,

@@ -52,8 +52,8 @@ pub struct Scanner {
 
 impl Scanner {
     /// Creates a scanner at the start of an input. The input is frames if `frames` is true or its
-    /// first two bytes are `AM`, which begin a protocol header and no values. A payload of more than
-    /// `piece` bytes is split.
+    /// first two bytes are `AM`, which begin a protocol header and no values. A payload of more
+    /// than `piece` bytes is split.
     pub fn new(alloc: Global, frames: bool, piece: usize) -> Scanner {
         Scanner {
             levels: Vec::new(alloc),

@@ -16,9 +16,9 @@ const BLOCK: usize = 4096;
 ///
 /// # Implementer notes
 ///
-/// `left` is the bytes that were not taken, if the source knows them, and `held` the bytes that were
-/// taken since the last call of `begin`. Only `begin` drops bytes: every other call moves bytes from
-/// `left` to the end of `held`.
+/// `left` is the bytes that were not taken, if the source knows them, and `held` the bytes that
+/// were taken since the last call of `begin`. Only `begin` drops bytes: every other call moves
+/// bytes from `left` to the end of `held`.
 pub trait Taking {
     /// The bytes that were not taken, if the source knows them.
     ghost left: { Self → Option (List ℕ) };
@@ -162,8 +162,8 @@ fn forget(bytes: &mut Vec<u8>, count: usize)
     bytes.truncate(left);
 }
 
-// Reads at least one byte, unless the input ends, and appends what was read. Memory is reserved first,
-// so that no byte is lost.
+// Reads at least one byte, unless the input ends, and appends what was read. Memory is reserved
+// first, so that no byte is lost.
 fn read_more<R: Read>(reader: &mut R, bytes: &mut Vec<u8>) -> Result<(), Fault>
     ensures read { ReadsMore bytes.old.items (R.left reader.old) bytes.new.items
         (R.left reader.new) }

@@ -10,8 +10,8 @@ use crate::texts::{first_payload, piece_value, push_safe, push_value, value_of};
 use amqp_value::Value;
 use std::alloc::Global;
 
-/// Appends what an item adds to the text of a value of the depth `base`. `levels` are those that are
-/// open after the item, and `in_payload` says whether a binary or a text is open after it.
+/// Appends what an item adds to the text of a value of the depth `base`. `levels` are those that
+/// are open after the item, and `in_payload` says whether a binary or a text is open after it.
 pub(crate) fn push_text(
     alloc: Global,
     line: &mut Line,
@@ -71,8 +71,8 @@ fn separator(outer: &[Level]) -> &'static str {
     }
 }
 
-// Appends the text of a piece of a payload: what begins it if it is the first, and what ends it if it
-// is the last.
+// Appends the text of a piece of a payload: what begins it if it is the first, and what ends it if
+// it is the last.
 fn push_piece(
     line: &mut Line,
     kind: PrimitiveType,

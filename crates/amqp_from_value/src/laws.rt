@@ -57,7 +57,8 @@ pub fn variants_return()
 /// images of the other fields.
 pub fn short_lists_return()
     ensures complete { (ps : List (Option Tree)) (fs : List (Bool × Tree)) →
-        HaveImages ps (trees_of (up_to_last fs)) → HasImage (tree_of_parts kind.List ps) (short_list fs) }
+        HaveImages ps (trees_of (up_to_last fs)) →
+        HasImage (tree_of_parts kind.List ps) (short_list fs) }
     ensures field { (b : Bool) (p : Option Tree) (ps : List (Option Tree)) (t : Tree)
         (ts : List Tree) → HasImage p t → HaveImages ps (trees_of ts) →
         HaveImages (if b then p ∷ ps else []) (trees_of (if b then t ∷ ts else [])) }

@@ -60,7 +60,8 @@ impl Alternatives for Unknown {
 
     ghost image = { λ x. ⟦<Value as Deserialize>⟧.image x.0.value };
 
-    ghost restorable = { λ x. IsCode x.0.descriptor × ⟦<Value as Deserialize>⟧.restorable x.0.value };
+    ghost restorable = { λ x. IsCode x.0.descriptor
+        × ⟦<Value as Deserialize>⟧.restorable x.0.value };
 
     ghost same = { λ x y. (descriptor_content x.0.descriptor ≡ descriptor_content y.0.descriptor)
         × ⟦<Value as Deserialize>⟧.same x.0.value y.0.value };
@@ -87,7 +88,8 @@ impl RoundTripAlternatives for Unknown {
 
     ghost image = { λ x. ⟦<Value as Deserialize>⟧.image x.0.value };
 
-    ghost restorable = { λ x. IsCode x.0.descriptor × ⟦<Value as Deserialize>⟧.restorable x.0.value };
+    ghost restorable = { λ x. IsCode x.0.descriptor
+        × ⟦<Value as Deserialize>⟧.restorable x.0.value };
 
     fn law() {
         <Described<Value> as RoundTrip>::law();

@@ -22,8 +22,8 @@ use std::alloc::Global;
 ///
 /// # Errors
 /// Returns `Error::OutOfMemory` if an allocation fails. Otherwise returns an error if and only if
-/// the argument has no tree, or a lazy value in it encodes no value: the error of `decode_value` for
-/// the bytes of a lazy value, and `Error::InvalidValue` in other cases.
+/// the argument has no tree, or a lazy value in it encodes no value: the error of `decode_value`
+/// for the bytes of a lazy value, and `Error::InvalidValue` in other cases.
 ///
 /// # Memory
 /// Allocates from `alloc`.

@@ -28,8 +28,8 @@ const MAX_OPEN: usize = 4;
 pub struct NextCapacity {
     // The capacity for the next list, or 0 to let it grow.
     next: usize,
-    // The capacity of the last list, or 0 if it is less than `MIN_CAPACITY`; and the number of lists
-    // before it, one after another, that had the same.
+    // The capacity of the last list, or 0 if it is less than `MIN_CAPACITY`; and the number of
+    // lists before it, one after another, that had the same.
     last: usize,
     equal: usize,
     // The number of such lists that is needed to reserve a capacity.

@@ -1,11 +1,13 @@
 //! The parts of an open compound.
 
-ghost use Rattle.std.specs.Prelude.{◌≡◌, false, ◌++◌, ◌∷◌, [], List, Option, Some, None, MatchResult, MatchOption};
+ghost use Rattle.std.specs.Prelude.{◌≡◌, false, ◌++◌, ◌∷◌, [], List, Option, Some, None};
+ghost use Rattle.std.specs.Prelude.{MatchResult, MatchOption};
 ghost use Rattle.amqp_ser.specs.Tree.{Tree, Trees, Pairs, no_trees};
 ghost use Rattle.amqp_ser.specs.Compounds.{as_kind, in_pairs};
 ghost use Rattle.amqp_value.specs.Image.{image, variant_map};
 ghost use Rattle.amqp_value.specs.TreeOf.{tree_of};
-ghost use Rattle.amqp_to_value.specs.HeldImages.{HoldsImages, is_single, compound_tree, then, TakesPairs, IsOpenedImage};
+ghost use Rattle.amqp_to_value.specs.HeldImages.{HoldsImages, is_single, compound_tree, then};
+ghost use Rattle.amqp_to_value.specs.HeldImages.{TakesPairs, IsOpenedImage};
 ghost use Rattle.amqp_ser.specs.Meant.{meant};
 
 use crate::next_capacity::NextCapacity;

@@ -1,10 +1,13 @@
 //! Descriptors whose values are pending.
 
-ghost use Rattle.std.specs.Prelude.{◌≡◌, ℕ, ◌+◌, ◌≤◌, ◌++◌, ◌∷◌, [], List, length, take, drop, true, false, vec_capacity, vec_len, MatchResult};
+ghost use Rattle.std.specs.Prelude.{◌≡◌, ℕ, ◌+◌, ◌≤◌, ◌++◌, ◌∷◌, [], List, length, take, drop};
+ghost use Rattle.std.specs.Prelude.{true, false, vec_capacity, vec_len, MatchResult};
 ghost use Rattle.amqp_ser.specs.Carried.{descriptor_content};
 ghost use Rattle.amqp_ser.specs.Tree.{Descriptor as Content, Tree};
 ghost use Rattle.amqp_value.specs.TreeOf.{tree_of};
-ghost use Rattle.amqp_to_value.specs.PendingDescriptors.{DescriptorsState, saved_of, descriptors_of, under_descriptors, standing};
+ghost use Rattle.amqp_to_value.specs.PendingDescriptors.{DescriptorsState, saved_of};
+ghost use Rattle.amqp_to_value.specs.PendingDescriptors.{descriptors_of, under_descriptors};
+ghost use Rattle.amqp_to_value.specs.PendingDescriptors.{standing};
 
 use crate::value_error::ValueError;
 use amqp_data::{Described, Descriptor};

@@ -89,7 +89,9 @@ impl amqp_ser::Serializer for Serializer {
     ghost use Rattle.amqp_ser.specs.Ends.{EndsPart, EndsDescriptor};
     ghost use Rattle.amqp_ser.specs.Composites.{descriptor_of};
     ghost use Rattle.amqp_ser.specs.declared.kind.CompoundKind.{CompoundKind};
-    ghost use Rattle.amqp_to_value.specs.ValueSerializer.{all_held, ValuePermits, ValueHas, ValueAwaits, ValueAwaitsDescriptor, no_value_of_none};
+    ghost use Rattle.amqp_to_value.specs.ValueSerializer.{all_held, ValuePermits, ValueHas};
+    ghost use Rattle.amqp_to_value.specs.ValueSerializer.{ValueAwaits, ValueAwaitsDescriptor};
+    ghost use Rattle.amqp_to_value.specs.ValueSerializer.{no_value_of_none};
 
     type Ok = Value;
 

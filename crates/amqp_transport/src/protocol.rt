@@ -49,7 +49,8 @@ impl ProtocolHeader {
     /// `414d515000010000` is the header of AMQP 1.0.0. `414d515001010000` is none.
     pub fn from_bytes(bytes: [u8; 8]) -> Option<ProtocolHeader>
         ensures some { IfSome result (λ h. bytes ≡ protocol_bytes h.protocol h.version) }
-        ensures none { IfNone result ((p : Protocol) (version : List ℕ) → bytes ≢ protocol_bytes p version) }
+        ensures none { IfNone result ((p : Protocol) (version : List ℕ) →
+            bytes ≢ protocol_bytes p version) }
     {
         let [b'A', b'M', b'Q', b'P', id, major, minor, revision] = bytes else {
             return None;

@@ -2,7 +2,8 @@
 
 ghost use Rattle.std.specs.Prelude.{◌≡◌, ◌≤◌, ◌++◌, None, IfOk, IfErr, IfSome, IfNone, length};
 ghost use Rattle.amqp_frame.specs.EncodedValue.{IsEncodedValue, HasEncodedValue};
-ghost use Rattle.amqp_transport.specs.Frames.{header_bytes, HasLengths, ReadsBody, RefusesBody, RefusesFrame};
+ghost use Rattle.amqp_transport.specs.Frames.{header_bytes, HasLengths, ReadsBody, RefusesBody};
+ghost use Rattle.amqp_transport.specs.Frames.{RefusesFrame};
 
 use crate::error::FrameError;
 use crate::header::FrameHeader;
@@ -71,7 +72,8 @@ impl<'a> Frame<'a> {
     /// # Example
     /// The body `0053174501` gives `00531745` and the payload `01`. An empty body gives `None`.
     pub fn split_body(&self) -> Option<(&'a [u8], &'a [u8])>
-        ensures some { IfSome result (λ r. IsEncodedValue r.0.now × (self.now.body.now ≡ r.0.now ++ r.1.now)) }
+        ensures some { IfSome result (λ r. IsEncodedValue r.0.now
+            × (self.now.body.now ≡ r.0.now ++ r.1.now)) }
         ensures none { IfNone result (¬ HasEncodedValue self.now.body.now) }
     {
         match frame_len(self.body) {

@@ -15,8 +15,8 @@ use std::alloc::Global;
 // that exceeds the input.
 const PIECE: usize = 4096;
 
-/// Takes the next frame off a reader, or returns `None` at its end. The bytes after the frame remain
-/// in the reader. [`frame_of`](crate::frame_of) reads the frame.
+/// Takes the next frame off a reader, or returns `None` at its end. The bytes after the frame
+/// remain in the reader. [`frame_of`](crate::frame_of) reads the frame.
 ///
 /// # Errors
 /// Returns `Incomplete` if the input ends inside the frame, `SizeTooSmall`, `OffsetTooSmall`,
@@ -24,8 +24,8 @@ const PIECE: usize = 4096;
 /// then consumed, `Value(Io)` if a read fails, and `Value(OutOfMemory)` if an allocation fails.
 ///
 /// # Memory
-/// Allocates a buffer from `alloc`. Its length grows with the bytes received, by at most 4,096 bytes
-/// at a time, and not with the size declared in the header.
+/// Allocates a buffer from `alloc`. Its length grows with the bytes received, by at most 4,096
+/// bytes at a time, and not with the size declared in the header.
 ///
 /// # Example
 /// From `0000000c020000030053174500`, takes the frame `0000000c0200000300531745`, and `00` remains.

@@ -104,7 +104,8 @@ fn reason<T: Serialize>(performative: &T, payload: usize, limit: u32) -> FrameEr
 fn size_of_frame(performative: usize, payload: usize, limit: u32) -> Result<u32, FrameError>
     ensures size { IfOk result (λ n. n ≡ frame_size performative payload) }
     ensures limit { IfOk result (λ n. n ≤ limit) }
-    ensures too_long { IfErr result (λ e. (e ≡ TooLong) × (limit < frame_size performative payload)) }
+    ensures too_long { IfErr result (λ e. (e ≡ TooLong)
+        × (limit < frame_size performative payload)) }
 {
     let Some(body) = performative.checked_add(payload) else {
         return Err(FrameError::TooLong);

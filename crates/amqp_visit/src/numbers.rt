@@ -154,7 +154,8 @@ impl Deserializer {
     /// # Example
     /// For the int 128, calls `visit_i32(128)`.
     pub fn deserialize_i32<V: Visitor>(self, visitor: V) -> Result<V::Value, Error>
-        ensures visits { Visits (ByScalar (V.gives visitor) int) (ByScalar (V.represents visitor) int)
+        ensures visits { Visits (ByScalar (V.gives visitor) int)
+            (ByScalar (V.represents visitor) int)
             V.same (value_tree self) result }
         ensures invalid { InvalidUnless (IsOf int (value_tree self)) result }
     {

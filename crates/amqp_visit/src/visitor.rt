@@ -98,14 +98,16 @@ pub trait Visitor: Sized + Drop {
 
     /// Visits a `u8`: calls `visit` with `Visit::U8`.
     final fn visit_u8(self, value: u8) -> Result<Self::Value, Error>
-        ensures { Visits (gives self) (represents self) same (unchanged_event (ubyte value)) result }
+        ensures { Visits (gives self) (represents self) same
+            (unchanged_event (ubyte value)) result }
     {
         self.visit(Visit::U8(value))
     }
 
     /// Visits a `u16`: calls `visit` with `Visit::U16`.
     final fn visit_u16(self, value: u16) -> Result<Self::Value, Error>
-        ensures { Visits (gives self) (represents self) same (unchanged_event (ushort value)) result }
+        ensures { Visits (gives self) (represents self) same
+            (unchanged_event (ushort value)) result }
     {
         self.visit(Visit::U16(value))
     }
@@ -119,7 +121,8 @@ pub trait Visitor: Sized + Drop {
 
     /// Visits a `u64`: calls `visit` with `Visit::U64`.
     final fn visit_u64(self, value: u64) -> Result<Self::Value, Error>
-        ensures { Visits (gives self) (represents self) same (unchanged_event (ulong value)) result }
+        ensures { Visits (gives self) (represents self) same
+            (unchanged_event (ulong value)) result }
     {
         self.visit(Visit::U64(value))
     }
@@ -133,7 +136,8 @@ pub trait Visitor: Sized + Drop {
 
     /// Visits an `i16`: calls `visit` with `Visit::I16`.
     final fn visit_i16(self, value: i16) -> Result<Self::Value, Error>
-        ensures { Visits (gives self) (represents self) same (unchanged_event (short value)) result }
+        ensures { Visits (gives self) (represents self) same
+            (unchanged_event (short value)) result }
     {
         self.visit(Visit::I16(value))
     }

@@ -3,7 +3,8 @@
 //! For readers who implement `Serializer`: shows all required methods. The definitions of its
 //! contract are in `specs/Nodes.antt`, and the proofs in `proofs/`.
 
-ghost use Rattle.std.specs.Prelude.{◌≡◌, ◌≤◌, ◌+◌, ◌^◌, Option, None, Result, Ok, Err, MatchResult, IfErr, IsErr, true, false};
+ghost use Rattle.std.specs.Prelude.{◌≡◌, ◌≤◌, ◌+◌, ◌^◌, Option, None, Result, Ok, Err, MatchResult};
+ghost use Rattle.std.specs.Prelude.{IfErr, IsErr, true, false};
 ghost use Rattle.serde_amqp.specs.Error.TheVariants.{InvalidValue, TooLong};
 ghost use Rattle.serde_amqp.specs.Tree.{Tree};
 ghost use Rattle.examples.specs.Nodes.{CountsNodes, fresh};
@@ -92,7 +93,8 @@ impl Serializer for NodeCounter {
     ghost use Rattle.serde_amqp.specs.CompoundKind.{CompoundKind};
     ghost use Rattle.serde_amqp.specs.Ends.{EndsPart, EndsDescriptor};
     ghost use Rattle.serde_amqp.specs.Composites.{descriptor_of};
-    ghost use Rattle.examples.specs.Nodes.{Awaits, AwaitsDescriptor, Has, Permits, no_count_on_none};
+    ghost use Rattle.examples.specs.Nodes.{Awaits, AwaitsDescriptor, Has, Permits};
+    ghost use Rattle.examples.specs.Nodes.{no_count_on_none};
 
     type Ok = u64;
 

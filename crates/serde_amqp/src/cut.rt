@@ -1,6 +1,7 @@
 //! Prints a line for each encoded value of the input.
 
-ghost use Rattle.std.specs.Prelude.{◌≡◌, ◌≢◌, ◌≤◌, ◌⊎◌, true, false, [], IfOk, OnOk, IfErr, IfSome, IsErrOf, IsOkUnless, Ok};
+ghost use Rattle.std.specs.Prelude.{◌≡◌, ◌≢◌, ◌≤◌, ◌⊎◌, true, false, [], IfOk, OnOk, IfErr, IfSome};
+ghost use Rattle.std.specs.Prelude.{IsErrOf, IsOkUnless, Ok};
 ghost use Rattle.std.specs.Io.KnownBytes.{Keeps, IsAtEnd};
 ghost use Rattle.amqp_frame.specs.Reader.{Failed};
 ghost use Rattle.serde_amqp.specs.CutLines.{cut_line};
@@ -18,8 +19,8 @@ use std::alloc::Global;
 /// The line is the length of the value in decimal, a space, its bytes in lower-case hexadecimal,
 /// and 0A. The writer is flushed at the end of the input.
 ///
-/// Some public names use "frame" for an encoded value, as the crate `serde_amqp` does. It is not a frame
-/// of the transport, which has a header of eight bytes (AMQP 1.0 part 2, section 2.3).
+/// Some public names use "frame" for an encoded value, as the crate `serde_amqp` does. It is not a
+/// frame of the transport, which has a header of eight bytes (AMQP 1.0 part 2, section 2.3).
 ///
 /// # Encoding
 ///

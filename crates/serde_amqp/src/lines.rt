@@ -1,6 +1,7 @@
 //! Prints the length, the encoding and the text of the list of the input's lines.
 
-ghost use Rattle.std.specs.Prelude.{◌≡◌, ◌≤◌, ◌⊎◌, true, false, IfOk, OnOk, IfErr, IfSome, IsErrOf, IsOkUnless, IsUtf8};
+ghost use Rattle.std.specs.Prelude.{◌≡◌, ◌≤◌, ◌⊎◌, true, false, IfOk, OnOk, IfErr, IfSome, IsErrOf};
+ghost use Rattle.std.specs.Prelude.{IsOkUnless, IsUtf8};
 ghost use Rattle.std.specs.Io.KnownBytes.{Appends, IsAtEnd};
 ghost use Rattle.amqp_frame.specs.Reader.{Failed};
 ghost use Rattle.amqp_ser.specs.Writable.{writable};

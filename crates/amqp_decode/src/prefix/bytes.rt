@@ -26,7 +26,8 @@ pub fn split_byte(bytes: &[u8]) -> Result<(u8, &[u8]), GaveUp>
 /// With `N` 2, from `000540`, returns `0005` and the rest `40`.
 #[inline(always)]
 pub fn split_bytes<const N: usize>(bytes: &[u8]) -> Result<([u8; N], &[u8]), GaveUp>
-    ensures { IfOk result (λ r. (cut N bytes.now ≡ Some (r.0, r.1.now)) × (exact N r.0 ≡ Some r.0)) }
+    ensures { IfOk result (λ r. (cut N bytes.now ≡ Some (r.0, r.1.now))
+        × (exact N r.0 ≡ Some r.0)) }
 {
     match bytes.split_first_chunk::<N>() {
         Some((first, rest)) => Ok((*first, rest)),

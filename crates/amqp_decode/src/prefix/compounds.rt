@@ -74,8 +74,9 @@ pub fn split_map(code: u8, bytes: &[u8]) -> Result<(u32, &[u8], &[u8]), GaveUp>
 /// payloads, and the bytes after the array.
 ///
 /// # Encoding
-/// The codes `e0` and `f0` (AMQP 1.0 part 1, section 1.6.24). Gives up on an array without elements,
-/// and on elements without bytes (`40` to `45`), of which the bytes do not limit the number.
+/// The codes `e0` and `f0` (AMQP 1.0 part 1, section 1.6.24). Gives up on an array without
+/// elements, and on elements without bytes (`40` to `45`), of which the bytes do not limit the
+/// number.
 #[inline(always)]
 pub fn split_array(code: u8, bytes: &[u8]) -> Result<(u32, u8, &[u8], &[u8]), GaveUp>
     ensures opened { IfOk result (λ r. IsArrayOf (code ∷ bytes.now) r.3.now r.0 r.1 r.2.now) }
@@ -95,11 +96,12 @@ pub fn split_array(code: u8, bytes: &[u8]) -> Result<(u32, u8, &[u8], &[u8]), Ga
     Ok((count, constructor, payloads, rest))
 }
 
-/// Opens a described value with this numeric descriptor: returns the format code of the value inside
-/// and the bytes after it.
+/// Opens a described value with this numeric descriptor: returns the format code of the value
+/// inside and the bytes after it.
 #[inline(always)]
 pub fn split_described(wanted: u64, code: u8, bytes: &[u8]) -> Result<(u8, &[u8]), GaveUp>
-    ensures { IfOk result (λ r. IsDescribedBy (numbered wanted) (code ∷ bytes.now) (r.0 ∷ r.1.now)) }
+    ensures { IfOk result (λ r. IsDescribedBy (numbered wanted) (code ∷ bytes.now)
+        (r.0 ∷ r.1.now)) }
 {
     if code != 0 {
         return Err(GaveUp);

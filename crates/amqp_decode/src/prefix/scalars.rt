@@ -2,8 +2,10 @@
 //! format codes.
 
 ghost use Rattle.std.specs.Prelude.{◌≡◌, ◌∷◌, IfOk, Some};
-ghost use Rattle.amqp_data.specs.Fixed.{dec32_bytes, dec64_bytes, dec128_bytes, f32_bits, f64_bits, milliseconds_of, uuid_bytes};
-ghost use Rattle.amqp_ser.specs.Tree.{null, bool, float, double, char, timestamp, decimal32, decimal64, decimal128, uuid};
+ghost use Rattle.amqp_data.specs.Fixed.{dec32_bytes, dec64_bytes, dec128_bytes, f32_bits, f64_bits};
+ghost use Rattle.amqp_data.specs.Fixed.{milliseconds_of, uuid_bytes};
+ghost use Rattle.amqp_ser.specs.Tree.{null, bool, float, double, char, timestamp, decimal32};
+ghost use Rattle.amqp_ser.specs.Tree.{decimal64, decimal128, uuid};
 ghost use Rattle.amqp_decode.specs.Prefix.{IsScalar};
 ghost use Rattle.amqp_decode.specs.Scalars.{character};
 
@@ -117,7 +119,8 @@ pub fn read_double(code: u8, bytes: &[u8]) -> Result<(F64Bits, &[u8]), GaveUp>
 /// The code `83` (AMQP 1.0 part 1, section 1.6.17).
 #[inline(always)]
 pub fn read_timestamp(code: u8, bytes: &[u8]) -> Result<(Timestamp, &[u8]), GaveUp>
-    ensures { IfOk result (λ r. IsScalar (code ∷ bytes.now) r.1.now (timestamp (milliseconds_of r.0))) }
+    ensures { IfOk result (λ r. IsScalar (code ∷ bytes.now) r.1.now
+        (timestamp (milliseconds_of r.0))) }
 {
     match code {
         0x83 => {
@@ -168,7 +171,8 @@ pub fn read_decimal64(code: u8, bytes: &[u8]) -> Result<(Dec64, &[u8]), GaveUp>
 /// The code `94` (AMQP 1.0 part 1, section 1.6.15).
 #[inline(always)]
 pub fn read_decimal128(code: u8, bytes: &[u8]) -> Result<(Dec128, &[u8]), GaveUp>
-    ensures { IfOk result (λ r. IsScalar (code ∷ bytes.now) r.1.now (decimal128 (dec128_bytes r.0))) }
+    ensures { IfOk result (λ r. IsScalar (code ∷ bytes.now) r.1.now
+        (decimal128 (dec128_bytes r.0))) }
 {
     match code {
         0x94 => {

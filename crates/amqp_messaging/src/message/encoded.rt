@@ -1,7 +1,9 @@
 //! The encoded sections of a message.
 
 ghost use Rattle.std.specs.Prelude.{◌≡◌, ◌++◌, [], None, Some, IfOk, IfErr, IfSome, IfNone};
-ghost use Rattle.amqp_messaging.specs.Sections.{place, may_repeat, AreSections, Follows, IsSection, Misplaced, RefusesFirst, RefusesSection, RefusesSections};
+ghost use Rattle.amqp_messaging.specs.Sections.{place, may_repeat, AreSections, Follows, IsSection};
+ghost use Rattle.amqp_messaging.specs.Sections.{Misplaced, RefusesFirst, RefusesSection};
+ghost use Rattle.amqp_messaging.specs.Sections.{RefusesSections};
 
 use crate::message::error::MessageError;
 use crate::message::kind::{SectionKind, kind_of};
@@ -97,10 +99,12 @@ impl<'a> EncodedSections<'a> {
     pub fn next_section(&mut self) -> Result<Option<EncodedSection<'a>>, MessageError>
         ensures some { IfOk result (λ found. IfSome found (λ section.
             IsSection section.kind section.bytes.now × Follows self.old.last section.kind
-            × (self.old.rest.now ≡ section.bytes.now ++ self.new.rest.now) × (self.new.last ≡ Some section.kind))) }
+            × (self.old.rest.now ≡ section.bytes.now ++ self.new.rest.now)
+            × (self.new.last ≡ Some section.kind))) }
         ensures none { IfOk result (λ found. IfNone found (self.old.rest.now ≡ [])) }
         ensures refused { IfErr result (RefusesSection self.old.last self.old.rest.now) }
-        ensures kept { IfErr result (λ _. (self.new.rest.now ≡ self.old.rest.now) × (self.new.last ≡ self.old.last)) }
+        ensures kept { IfErr result (λ _. (self.new.rest.now ≡ self.old.rest.now)
+            × (self.new.last ≡ self.old.last)) }
     {
         if self.rest.is_empty() {
             return Ok(None);

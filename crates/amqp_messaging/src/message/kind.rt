@@ -78,7 +78,8 @@ impl SectionKind {
 
     // Returns the encoded name, with a length of four bytes.
     fn long_name(self) -> &'static [u8]
-        ensures { result.now ≡ 0 ∷ 0xb3 ∷ 0 ∷ 0 ∷ 0 ∷ length (section_name self) ∷ section_name self }
+        ensures { result.now ≡ 0 ∷ 0xb3 ∷ 0 ∷ 0 ∷ 0 ∷ length (section_name self)
+            ∷ section_name self }
     {
         match self {
             SectionKind::Header => b"\0\xb3\0\0\0\x10amqp:header:list",

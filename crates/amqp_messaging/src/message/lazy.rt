@@ -50,13 +50,14 @@ impl<'a> LazyMessage<'a> {
     /// Reads a message from its encoded sections. The body and the footer are not decoded.
     ///
     /// # Errors
-    /// Returns `Malformed`, `UnknownSection`, `OutOfOrder`, `Repeated`, `MixedBody` or `NoBody` if the
-    /// bytes are not the sections of a message, and the error of `from_slice_limited_located` for the
-    /// first section that cannot be read, as `Section`. A section with more array elements without
-    /// bytes than it has bytes is `TooLong`.
+    /// Returns `Malformed`, `UnknownSection`, `OutOfOrder`, `Repeated`, `MixedBody` or `NoBody` if
+    /// the bytes are not the sections of a message, and the error of `from_slice_limited_located`
+    /// for the first section that cannot be read, as `Section`. A section with more array elements
+    /// without bytes than it has bytes is `TooLong`.
     ///
     /// # Memory
-    /// Allocates the header, the annotations and the properties from `alloc`. The body is not copied.
+    /// Allocates the header, the annotations and the properties from `alloc`. The body is not
+    /// copied.
     pub fn from_slice(alloc: Global, bytes: &'a [u8]) -> Result<LazyMessage<'a>, MessageError>
         ensures around { IfOk result (λ m. (header delivery message : List ℕ)
             × IsAround header delivery message m.bare.now m.footer.now bytes.now
@@ -82,7 +83,8 @@ impl<'a> LazyMessage<'a> {
     /// Returns the errors of `from_slice`, and `TooLong` for a section that exceeds a limit.
     ///
     /// # Memory
-    /// Allocates the header, the annotations and the properties from `alloc`. The body is not copied.
+    /// Allocates the header, the annotations and the properties from `alloc`. The body is not
+    /// copied.
     pub fn from_slice_with(
         alloc: Global,
         bytes: &'a [u8],
@@ -122,8 +124,8 @@ impl<'a> LazyMessage<'a> {
         })
     }
 
-    /// Returns the encoded message: the header and the annotations, the bare message as it was read,
-    /// and the footer.
+    /// Returns the encoded message: the header and the annotations, the bare message as it was
+    /// read, and the footer.
     ///
     /// # Errors
     /// Returns the error of `to_vec` for the header or the annotations as `Value`.

@@ -1,7 +1,8 @@
 //! Splits an encoded message into its parts.
 
 ghost use Rattle.std.specs.Prelude.{◌≡◌, ◌++◌, List, ℕ, IfSome};
-ghost use Rattle.amqp_messaging.specs.Parts.{AreAll, IsAround, IsBare, IsBody, IsPart, RefusesParts};
+ghost use Rattle.amqp_messaging.specs.Parts.{AreAll, IsAround, IsBare, IsBody, IsPart};
+ghost use Rattle.amqp_messaging.specs.Parts.{RefusesParts};
 
 use crate::message::encoded::check_order;
 use crate::message::error::MessageError;

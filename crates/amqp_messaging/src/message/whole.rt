@@ -2,8 +2,10 @@
 
 ghost use Rattle.std.specs.Prelude.{◌≡◌, ◌⊎◌, ◌++◌, [], List, ℕ, None, IfOk, IfErr, IfSome};
 ghost use Rattle.amqp_data.specs.declared.error.Error.{Error};
-ghost use Rattle.amqp_messaging.specs.Messages.{PutsBare, PutsFront, PutsSection, ReadsBody, ReadsPart};
-ghost use Rattle.amqp_messaging.specs.Messages.{RefusesBare, RefusesFront, RefusesMessage, RefusesSection};
+ghost use Rattle.amqp_messaging.specs.Messages.{PutsBare, PutsFront, PutsSection, ReadsBody};
+ghost use Rattle.amqp_messaging.specs.Messages.{ReadsPart};
+ghost use Rattle.amqp_messaging.specs.Messages.{RefusesBare, RefusesFront, RefusesMessage};
+ghost use Rattle.amqp_messaging.specs.Messages.{RefusesSection};
 ghost use Rattle.amqp_messaging.specs.Parts.{IsAround, IsBare};
 ghost use Rattle.amqp_messaging.specs.declared.message.error.MessageError.TheVariants.{Value};
 ghost use Rattle.amqp_messaging.specs.declared.message.kind.SectionKind.{SectionKind};
@@ -54,10 +56,10 @@ impl Message {
     /// Reads a message from its encoded sections.
     ///
     /// # Errors
-    /// Returns `Malformed`, `UnknownSection`, `OutOfOrder`, `Repeated`, `MixedBody` or `NoBody` if the
-    /// bytes are not the sections of a message, and the error of `from_slice_limited_located` for the
-    /// first section that cannot be read, as `Section`. A section with more array elements without
-    /// bytes than it has bytes is `TooLong`.
+    /// Returns `Malformed`, `UnknownSection`, `OutOfOrder`, `Repeated`, `MixedBody` or `NoBody` if
+    /// the bytes are not the sections of a message, and the error of `from_slice_limited_located`
+    /// for the first section that cannot be read, as `Section`. A section with more array elements
+    /// without bytes than it has bytes is `TooLong`.
     ///
     /// # Memory
     /// Allocates the message from `alloc`, as `from_slice_limited` does for each section.
