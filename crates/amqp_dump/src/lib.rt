@@ -13,6 +13,7 @@ mod frames;
 mod hex_reader;
 mod item;
 mod json;
+mod json_scalar;
 mod kinds;
 mod level;
 mod line;
