@@ -7,4 +7,4 @@ use Rattle.examples.proofs.counter.NodeCounterSerializer.misuse_error.Goals as g
 
 pub returns-clause-kept : goal.returns-clause-kept
 returns-clause-kept c = λ start kind ps h.
-  (h, (subst (λ o. CountsFrom start.descriptors o (Err InvalidValue)) (sym (meant_none start.pending)) (inl refl), h.1))
+    (h, (subst (λ o. CountsFrom start.descriptors o (Err InvalidValue)) (sym (meant_none start.pending)) (inl refl), h.1))
