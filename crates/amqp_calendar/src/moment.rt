@@ -1,9 +1,11 @@
 //! The text of a timestamp.
 
-ghost use Rattle.std.specs.Prelude.{◌≡◌, ◌+◌, ◌<◌, ◌≤◌, ◌∷◌, ◌++◌, pos, neg_ℤ, ◌≤ℤ◌, unsigned_abs, codes, take, IsAscii};
+ghost use Rattle.std.specs.Prelude.{◌≡◌, ◌+◌, ◌<◌, ◌≤◌, ◌∷◌, ◌++◌, pos, neg_ℤ, ◌≤ℤ◌, unsigned_abs};
+ghost use Rattle.std.specs.Prelude.{codes, take, IsAscii};
 ghost use Rattle.std.specs.Fmt.{WritesOnOk};
 ghost use Rattle.std.specs.Int.{int_div_euclid, int_rem_euclid};
-ghost use Rattle.amqp_calendar.specs.Moment.{date_and_time_text, moment_text, padded, time_text, year_text};
+ghost use Rattle.amqp_calendar.specs.Moment.{date_and_time_text, moment_text, padded, time_text};
+ghost use Rattle.amqp_calendar.specs.Moment.{year_text};
 
 use crate::civil_from_days;
 use std::fmt;

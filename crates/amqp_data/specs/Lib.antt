@@ -1,4 +1,4 @@
--- Definitions used by the contracts of public items, but for Index, Places and SortedHashes.
+-- Definitions used by the contracts of public items, but for Index, KeyPositions and SortedHashes.
 pub mod Compares
 pub mod DescriptorParts
 pub mod Fixed

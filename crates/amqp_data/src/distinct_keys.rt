@@ -63,8 +63,8 @@ pub(crate) fn index_all<K: Hash + Eq, V>(
 }
 
 /// Inserts the entries in order into an empty list, as far as the hashes of the keys show the place
-/// of each: a repeated key keeps its position and gets the new value. Returns true if no two keys are
-/// equal then.
+/// of each: a repeated key keeps its position and gets the new value. Returns true if no two keys
+/// are equal then.
 ///
 /// Returns false if there are more than 16 entries and many keys have hashes in the same bucket, so
 /// that more than two comparisons for each entry would be needed, or if an allocation for the index
@@ -79,8 +79,8 @@ pub(crate) fn index_all<K: Hash + Eq, V>(
 /// returns.
 ///
 /// # Example
-/// The entries (2, `true`), (1, `true`), (2, `false`) become (2, `false`), (1, `true`), and it returns
-/// true.
+/// The entries (2, `true`), (1, `true`), (2, `false`) become (2, `false`), (1, `true`), and it
+/// returns true.
 pub(crate) fn merge_repeated_keys<K: Hash + Eq + Drop, V: Drop>(
     alloc: Global,
     entries: &mut Vec<(K, V)>,

@@ -25,8 +25,8 @@ pub(crate) fn bucket_of<K: Hash>(key: &K, count: usize) -> usize
     ((hasher.finish() >> 32) % count as u64) as usize
 }
 
-/// Returns the position of the key. The keys are searched in order. Inlined, so that the key is read
-/// once.
+/// Returns the position of the key. The keys are searched in order. Inlined, so that the key is
+/// read once.
 #[inline(always)]
 pub(crate) fn position_of<K: Eq, V>(entries: &[(K, V)], key: &K) -> Option<usize>
     ensures { result ≡ position (λ e. K.eq key.now e.0) entries.now }
@@ -39,8 +39,8 @@ pub(crate) fn position_of<K: Eq, V>(entries: &[(K, V)], key: &K) -> Option<usize
     None
 }
 
-/// Returns the position of the key, which is in the bucket if it is present. Takes one off `left` for
-/// each comparison, and returns `None` if none is left.
+/// Returns the position of the key, which is in the bucket if it is present. Takes one off `left`
+/// for each comparison, and returns `None` if none is left.
 #[inline(always)]
 pub(crate) fn find_within<K: Hash + Eq, V>(
     entries: &[(K, V)],
@@ -119,7 +119,8 @@ pub(crate) fn find_indexed<K: Hash + Eq, V>(
     earlier: &[u32],
     key: &K,
 ) -> Option<usize>
-    requires { 0 < length heads.now → IsIndexed K.eq K.hash_input heads.now earlier.now entries.now }
+    requires { 0 < length heads.now →
+        IsIndexed K.eq K.hash_input heads.now earlier.now entries.now }
     ensures { result ≡ position (λ e. K.eq key.now e.0) entries.now }
 {
     if heads.is_empty() {
@@ -147,8 +148,8 @@ pub(crate) fn add(heads: &mut [u32], earlier: &mut Vec<u32>, bucket: usize) -> b
     true
 }
 
-/// Makes an index with `count` buckets. Returns `None` if an allocation fails, or if there are 2³² - 1
-/// entries.
+/// Makes an index with `count` buckets. Returns `None` if an allocation fails, or if there are 2³²
+/// - 1 entries.
 pub(crate) fn index_entries<K: Hash, V>(
     alloc: Global,
     entries: &[(K, V)],

@@ -1,6 +1,7 @@
 //! Entries with each key once, found by comparison of all pairs of keys, by hashes or by order.
 
-ghost use Rattle.std.specs.Prelude.{◌≡◌, ◌≤◌, ◌++◌, [], IfOk, OnOk, IfSome, IfNone, length, position, take};
+ghost use Rattle.std.specs.Prelude.{◌≡◌, ◌≤◌, ◌++◌, [], IfOk, OnOk, IfSome, IfNone, length};
+ghost use Rattle.std.specs.Prelude.{position, take};
 ghost use Rattle.std.specs.Bool.{OnTrue};
 ghost use Rattle.std.specs.Map.{keys_of};
 ghost use Rattle.amqp_data.specs.Pairs.{AreDistinct, insert_pair, insert_pairs};
@@ -24,8 +25,8 @@ pub(crate) const MAX_PAIRED: usize = 8;
 /// the keys: instructions of `Value::try_from_ordered_map` of 8 to 96 binaries of 40 bytes.
 pub const MAX_PAIRED_LONG: usize = 48;
 
-/// The number of entries up to which the keys of one bucket are compared in all pairs: so the hashes
-/// of 16 keys in one bucket cost no more than the B-tree that would follow.
+/// The number of entries up to which the keys of one bucket are compared in all pairs: so the
+/// hashes of 16 keys in one bucket cost no more than the B-tree that would follow.
 pub(crate) const MAX_IN_ONE_BUCKET: usize = 16;
 
 /// The number of entries from which on an index costs less than searching each key among those
@@ -51,8 +52,8 @@ pub fn ascends<K: Ord, V>(entries: &[(K, V)]) -> bool
     true
 }
 
-/// Returns true if it is certain that no two keys are equal: the answer of `have_distinct_trees` for
-/// a type whose values are equal if they are read from the same tree.
+/// Returns true if it is certain that no two keys are equal: the answer of `have_distinct_trees`
+/// for a type whose values are equal if they are read from the same tree.
 ///
 /// # Memory
 /// For more than 8 entries, that of `finds_distinct_keys`.
@@ -82,9 +83,9 @@ pub fn ordered_keys_differ<K: Hash + Ord, V>(alloc: Global, entries: &[(K, V)]) 
     }
 }
 
-/// Returns the entries, inserted in order: a repeated key keeps its position and gets the new value.
-/// The keys are compared in pairs if there are few, and found by their hashes otherwise, or by their
-/// order if many have hashes in the same bucket.
+/// Returns the entries, inserted in order: a repeated key keeps its position and gets the new
+/// value. The keys are compared in pairs if there are few, and found by their hashes otherwise, or
+/// by their order if many have hashes in the same bucket.
 ///
 /// # Errors
 /// Returns `AllocError` if an allocation fails, which can happen only if a key repeats, or if there
@@ -105,7 +106,7 @@ pub fn once_each<K: Hash + Ord + Drop, V: Drop>(
     once_each_by_order(alloc, merged)
 }
 
-/// Does the same for keys without an order, by their hashes alone: by 64-bit hashes if many have
+/// Like `once_each` for keys without an order, by their hashes alone: by 64-bit hashes if many have
 /// hashes in the same bucket.
 pub fn once_each_unordered<K: Hash + Eq + Drop, V: Drop>(
     alloc: Global,
@@ -120,7 +121,7 @@ pub fn once_each_unordered<K: Hash + Eq + Drop, V: Drop>(
     once_each_by_hashes(alloc, merged)
 }
 
-/// Does the same by comparing each key with each one before it.
+/// Like `once_each`, by comparing each key with each one before it.
 pub fn once_each_by_pairs<K: Eq + Drop, V: Drop>(
     entries: Vec<(K, V)>,
 ) -> Result<Vec<(K, V)>, AllocError>

@@ -58,8 +58,8 @@ impl<K: Hash + Eq, V> OrderedMapBuilder<K, V> {
     /// `new`.
     ///
     /// # Memory
-    /// The index takes 16 bytes for each of `count` entries, in two blocks, so `count` is a number of
-    /// entries that exist. Keeps `alloc` for later insertions.
+    /// The index takes 16 bytes for each of `count` entries, in two blocks, so `count` is a number
+    /// of entries that exist. Keeps `alloc` for later insertions.
     pub fn with_index(alloc: Global, count: usize) -> Self
         ensures { result ≡ [] }
     {
@@ -82,8 +82,8 @@ impl<K: Hash + Eq, V> OrderedMapBuilder<K, V> {
     /// Inserts a key with its value, and returns the previous value if the key was present.
     ///
     /// A key that is present keeps its position, and the key argument is dropped. A new key is
-    /// appended. The keys are searched by the index if there is one, and it is made at the latest for
-    /// the 48th entry. Before, the keys are searched in order. The hash has a fixed seed.
+    /// appended. The keys are searched by the index if there is one, and it is made at the latest
+    /// for the 48th entry. Before, the keys are searched in order. The hash has a fixed seed.
     ///
     /// # Errors
     /// Returns `Error::OutOfMemory` if an allocation for the entries fails. The entries are then
@@ -91,9 +91,9 @@ impl<K: Hash + Eq, V> OrderedMapBuilder<K, V> {
     /// keys are searched in order, and the next insertion tries again to make the index.
     ///
     /// # Memory
-    /// Allocates nothing if the key is present. From 48 entries on, the index takes 8 to 16 bytes for
-    /// each entry, or what `with_index` took, if that is more. While it is made anew for more entries,
-    /// there are two.
+    /// Allocates nothing if the key is present. From 48 entries on, the index takes 8 to 16 bytes
+    /// for each entry, or what `with_index` took, if that is more. While it is made anew for more
+    /// entries, there are two.
     pub fn insert(&mut self, key: K, value: V) -> Result<Option<V>, Error>
     where
         K: Drop,

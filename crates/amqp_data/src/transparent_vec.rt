@@ -155,8 +155,8 @@ impl<T> TransparentVec<T> {
 /// Allocates from `alloc`.
 ///
 /// # Example
-/// `iter.collect(alloc)` of an iterator over `true` and `false` gives the transparent vector encoded
-/// as `4142`.
+/// `iter.collect(alloc)` of an iterator over `true` and `false` gives the transparent vector
+/// encoded as `4142`.
 impl<T: Drop> FromIterator<T> for TransparentVec<T> {
     type Alloc = Global;
 

@@ -1,6 +1,7 @@
 //! Universally unique identifiers (AMQP 1.0 part 1, section 1.6.18).
 
-ghost use Rattle.std.specs.Prelude.{◌≡◌, ◌+◌, ◌*◌, ◌<◌, ◌≤◌, ◌++◌, take, drop, length, map, Some, IfErr, IfOk};
+ghost use Rattle.std.specs.Prelude.{◌≡◌, ◌+◌, ◌*◌, ◌<◌, ◌≤◌, ◌++◌, take, drop, length, map, Some};
+ghost use Rattle.std.specs.Prelude.{IfErr, IfOk};
 ghost use Rattle.std.specs.Prelude.{IsAscii};
 ghost use Rattle.std.specs.Char.{to_ascii_lowercase};
 ghost use Rattle.amqp_data.specs.Fixed.{uuid_bytes, GivesFixed};
@@ -48,8 +49,8 @@ impl Uuid {
 }
 
 impl Uuid {
-    /// Creates a uuid from its text: groups of 8, 4, 4, 4 and 12 hexadecimal digits in lower or upper
-    /// case, separated by hyphens, as `Display` writes it.
+    /// Creates a uuid from its text: groups of 8, 4, 4, 4 and 12 hexadecimal digits in lower or
+    /// upper case, separated by hyphens, as `Display` writes it.
     ///
     /// # Errors
     /// Returns `Error::InvalidValue` for any other text.

@@ -1,7 +1,9 @@
 //! The length of the first encoded value of a slice.
 
-ghost use Rattle.std.specs.Prelude.{◌≡◌, ◌≢◌, ◌≤◌, ◌<◌, ◌⊎◌, ◌++◌, ℕ, List, IfSome, IfNone, Some, length, take, slice_index};
-ghost use Rattle.amqp_frame.specs.EncodedValue.{IsEncodedValue, IsIncomplete, HasEncodedValue, HasMalformed};
+ghost use Rattle.std.specs.Prelude.{◌≡◌, ◌≢◌, ◌≤◌, ◌<◌, ◌⊎◌, ◌++◌, ℕ, List, IfSome, IfNone, Some};
+ghost use Rattle.std.specs.Prelude.{length, take, slice_index};
+ghost use Rattle.amqp_frame.specs.EncodedValue.{IsEncodedValue, IsIncomplete, HasEncodedValue};
+ghost use Rattle.amqp_frame.specs.EncodedValue.{HasMalformed};
 ghost use Rattle.amqp_frame.specs.Whole.{is_encoded_value};
 
 use crate::code::{body_len_of, category_of, is_primitive, size_width_of};
@@ -26,7 +28,8 @@ use crate::code::{body_len_of, category_of, is_primitive, size_width_of};
 /// `4010` gives `Some(1)`. `00a1016145` gives `Some(5)`. `10`, `a10561` and an empty slice give
 /// `None`.
 pub fn frame_len(bytes: &[u8]) -> Option<usize>
-    ensures found { IfSome result (λ n. (n ≤ length bytes.now) × IsEncodedValue (take n bytes.now)) }
+    ensures found { IfSome result (λ n. (n ≤ length bytes.now)
+        × IsEncodedValue (take n bytes.now)) }
     ensures only { (prefix rest : List ℕ) → IsEncodedValue prefix → bytes.now ≡ prefix ++ rest →
         result ≡ Some (length prefix) }
     ensures none { IfNone result (¬ HasEncodedValue bytes.now) }

@@ -3,13 +3,15 @@
 ghost use Rattle.std.specs.Prelude.{◌≡◌, ◌<◌, ◌↔◌, ℕ, IsTrue, List, [], ◌++◌, length};
 ghost use Rattle.std.specs.List.{AllByRecursion, concat};
 ghost use Rattle.amqp_frame.specs.Cut.{IsCut};
-ghost use Rattle.amqp_frame.specs.EncodedValue.{IsEncodedValue, IsIncomplete, IsMalformed, HasEncodedValue, HasMalformed, ExactlyOne};
+ghost use Rattle.amqp_frame.specs.EncodedValue.{IsEncodedValue, IsIncomplete, IsMalformed};
+ghost use Rattle.amqp_frame.specs.EncodedValue.{HasEncodedValue, HasMalformed, ExactlyOne};
 ghost use Rattle.amqp_frame.specs.Whole.{is_encoded_value};
 
 /// At most one prefix of a byte string is an encoded value, so no encoded value is a proper prefix
 /// of another.
 pub fn one_value_at_a_place()
-    ensures { (a b x y : List ℕ) → IsEncodedValue a → IsEncodedValue b → a ++ x ≡ b ++ y → (a ≡ b) × (x ≡ y) }
+    ensures { (a b x y : List ℕ) → IsEncodedValue a → IsEncodedValue b → a ++ x ≡ b ++ y → (a ≡ b)
+        × (x ≡ y) }
 {}
 
 /// At most one prefix of a byte string is malformed.
@@ -36,13 +38,15 @@ pub fn one_test()
 
 /// Every byte string can be split into encoded values and a rest that does not begin with one.
 pub fn some_cut()
-    ensures { (s : List ℕ) → (encoded_values : List (List ℕ)) × (rest : List ℕ) × IsCut s encoded_values rest }
+    ensures { (s : List ℕ) → (encoded_values : List (List ℕ)) × (rest : List ℕ)
+        × IsCut s encoded_values rest }
 {}
 
 /// This split is unique.
 pub fn one_cut()
     ensures { (s rest last : List ℕ) (encoded_values others : List (List ℕ)) →
-        IsCut s encoded_values rest → IsCut s others last → (encoded_values ≡ others) × (rest ≡ last) }
+        IsCut s encoded_values rest → IsCut s others last → (encoded_values ≡ others)
+        × (rest ≡ last) }
 {}
 
 /// A concatenation of encoded values is split into these values, with an empty rest.

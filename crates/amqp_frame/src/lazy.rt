@@ -1,10 +1,12 @@
 //! The bytes of one encoded value.
 
-ghost use Rattle.std.specs.Prelude.{◌≡◌, ◌≤◌, IfOk, IfErr, OnErr, IfSome, IsOkUnless, MatchResult, length};
+ghost use Rattle.std.specs.Prelude.{◌≡◌, ◌≤◌, IfOk, IfErr, OnErr, IfSome, IsOkUnless, MatchResult};
+ghost use Rattle.std.specs.Prelude.{length};
 ghost use Rattle.std.specs.Io.KnownBytes.{Consumes};
 ghost use Rattle.amqp_frame.specs.EncodedValue.{IsEncodedValue};
 ghost use Rattle.amqp_frame.specs.Reader.{Takes};
-ghost use Rattle.amqp_frame.specs.Taking.{TakesIncomplete, TakesMalformed, RefusesEncodedValue, RefusesWithin, DecidedBy};
+ghost use Rattle.amqp_frame.specs.Taking.{TakesIncomplete, TakesMalformed, RefusesEncodedValue};
+ghost use Rattle.amqp_frame.specs.Taking.{RefusesWithin, DecidedBy};
 
 use crate::encoded_value::is_encoded_value;
 use crate::read::Read;
@@ -98,10 +100,10 @@ impl LazyValue {
     ///
     /// # Errors
     ///
-    /// Returns [`Error::TooLong`] if no encoded value of at most `limit` bytes is next, but a longer
-    /// one can be, before a byte after the limit is requested. Returns the errors of `from_reader`
-    /// otherwise. After any error, the consumed bytes followed by the remaining bytes are the bytes
-    /// that remained before the call.
+    /// Returns [`Error::TooLong`] if no encoded value of at most `limit` bytes is next, but a
+    /// longer one can be, before a byte after the limit is requested. Returns the errors of
+    /// `from_reader` otherwise. After any error, the consumed bytes followed by the remaining bytes
+    /// are the bytes that remained before the call.
     ///
     /// # Memory
     ///
@@ -109,8 +111,8 @@ impl LazyValue {
     ///
     /// # Example
     ///
-    /// From `a1016145`, reads `a10161` with the limit 3. With the limit 2, the value is too long, and
-    /// `6145` remains.
+    /// From `a1016145`, reads `a10161` with the limit 3. With the limit 2, the value is too long,
+    /// and `6145` remains.
     pub fn from_reader_limited<R: Read>(
         alloc: Global,
         reader: &mut R,

@@ -1,6 +1,7 @@
 //! The trait of readers.
 
-ghost use Rattle.std.specs.Prelude.{◌≡◌, ◌≤◌, ◌<◌, ◌⊎◌, ℕ, Bool, List, Option, None, Ok, IfOk, OnOk, IfErr, OnErr, IfSome, IsErrOf, length, take, slice_get};
+ghost use Rattle.std.specs.Prelude.{◌≡◌, ◌≤◌, ◌<◌, ◌⊎◌, ℕ, Bool, List, Option, None, Ok, IfOk};
+ghost use Rattle.std.specs.Prelude.{OnOk, IfErr, OnErr, IfSome, IsErrOf, length, take, slice_get};
 ghost use Rattle.std.specs.Option.{option_to_list};
 ghost use Rattle.std.specs.Io.KnownBytes.{Keeps, Consumes, IsAtEnd};
 ghost use Rattle.amqp_frame.specs.Reader.{last_count, Failed, Takes, RunsOut, answers_io};

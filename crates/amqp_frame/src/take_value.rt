@@ -1,11 +1,13 @@
 //! Reads the bytes of the next encoded value into a buffer.
 
-ghost use Rattle.std.specs.Prelude.{◌≡◌, ◌≤◌, ◌<◌, ◌-◌, ◌^◌, ◌+◌, [], ◌∷◌, ◌++◌, IfOk, OnOk, IfErr, IfSome, IsErrOf, IsOkUnless, Some, length};
+ghost use Rattle.std.specs.Prelude.{◌≡◌, ◌≤◌, ◌<◌, ◌-◌, ◌^◌, ◌+◌, [], ◌∷◌, ◌++◌, IfOk, OnOk, IfErr};
+ghost use Rattle.std.specs.Prelude.{IfSome, IsErrOf, IsOkUnless, Some, length};
 ghost use Rattle.std.specs.Io.KnownBytes.{Consumes};
 ghost use Rattle.amqp_frame.specs.Code.{category, payload_len};
 ghost use Rattle.amqp_frame.specs.EncodedValue.{IsEncodedValue};
 ghost use Rattle.amqp_frame.specs.Reader.{RunsOut};
-ghost use Rattle.amqp_frame.specs.Taking.{RefusesEncodedValue, LimitedRefuses, Moves, PassesLimit, RefusesWithin};
+ghost use Rattle.amqp_frame.specs.Taking.{RefusesEncodedValue, LimitedRefuses, Moves, PassesLimit};
+ghost use Rattle.amqp_frame.specs.Taking.{RefusesWithin};
 
 use crate::code::{Category, body_len_of, category_of, is_primitive, size_width_of};
 use crate::read::Read;
@@ -17,8 +19,8 @@ use std::alloc::Global;
 // that exceeds the input.
 const PIECE: usize = 4096;
 
-// The maximum number of bytes that are copied to a new, larger block. Enlarging the block takes more
-// instructions than copying so few bytes.
+// The maximum number of bytes that are copied to a new, larger block. Enlarging the block takes
+// more instructions than copying so few bytes.
 const COPIED: usize = 24;
 
 /// Reads the next encoded value, one format code at a time, and counts the values still expected.
@@ -36,8 +38,8 @@ const COPIED: usize = 24;
 ///
 /// # Example
 ///
-/// From `500140`, reads `5001`, and `40` remains. With the limit 1, the value is too long, and `0140`
-/// remains.
+/// From `500140`, reads `5001`, and `40` remains. With the limit 1, the value is too long, and
+/// `0140` remains.
 #[inline(always)]
 pub fn take_value<R: Read>(alloc: Global, reader: &mut R, limit: usize) -> Result<Bytes, Error>
     ensures encoded { IfOk result (λ bytes.
@@ -95,8 +97,8 @@ fn push_zero(collected: &mut Vec<u8>) -> Result<(), Error>
     Ok(())
 }
 
-// Reads the payload of this code and appends the code and the payload to `collected`, which then has at
-// most `limit` bytes.
+// Reads the payload of this code and appends the code and the payload to `collected`, which then
+// has at most `limit` bytes.
 #[inline(always)]
 fn take_primitive<R: Read>(
     reader: &mut R,
@@ -186,9 +188,9 @@ fn push_size(collected: &mut Vec<u8>, size: &[u8]) -> Result<(), Error>
     Ok(())
 }
 
-// Makes room for `count` more bytes, and for no others in the first block. While few bytes are held,
-// a count of at least twice the capacity takes a new block of exact size, and a smaller one doubles
-// the block, so that many small values are not copied one by one.
+// Makes room for `count` more bytes, and for no others in the first block. While few bytes are
+// held, a count of at least twice the capacity takes a new block of exact size, and a smaller one
+// doubles the block, so that many small values are not copied one by one.
 fn reserve_bytes(collected: &mut Vec<u8>, count: usize) -> Result<(), Error>
     requires { count ≤ 4101 }
     ensures items { collected.new.items ≡ collected.old.items }

@@ -3,7 +3,8 @@
 ghost use Rattle.std.specs.Prelude.{◌≡◌, List, Option, true};
 ghost use Rattle.amqp_ser.specs.Tree.{Tree};
 ghost use Rattle.amqp_ser.specs.Compounds.{complete, tree_of_parts};
-ghost use Rattle.amqp_ser.specs.Named.{named_parts, key_of, string_key, symbol_key, up_to_last, values_of};
+ghost use Rattle.amqp_ser.specs.Named.{named_parts, key_of, string_key, symbol_key, up_to_last};
+ghost use Rattle.amqp_ser.specs.Named.{values_of};
 ghost use Rattle.amqp_ser.specs.declared.kind.CompoundKind.TheVariants as kind;
 
 use crate::fields::{Fields, Keys};
@@ -18,7 +19,8 @@ fn serialize_values<S: Serializer, F: Fields>(
     fields: &F,
 ) -> Result<S::Ok, S::Error>
     requires { (ps : List (Option Tree)) → complete kind ps ≡ true }
-    ensures { S.permits serializer.old (tree_of_parts kind (up_to_last (values_of (F.field_trees fields.now))))
+    ensures { S.permits serializer.old (tree_of_parts kind
+        (up_to_last (values_of (F.field_trees fields.now))))
         result serializer.new }
 {
     let mut compound = serializer.begin_compound(kind);
@@ -73,7 +75,8 @@ impl<F: Fields> Serialize for ListOf<F> {
 pub struct VariantOf<F>(pub u32, pub F);
 
 impl<F: Fields> Serialize for VariantOf<F> {
-    ghost tree = { λ v. tree_of_parts (kind.Variant v.0) (up_to_last (values_of (F.field_trees v.1))) };
+    ghost tree = { λ v. tree_of_parts (kind.Variant v.0)
+        (up_to_last (values_of (F.field_trees v.1))) };
 
     #[inline(always)]
     fn serialize<S: Serializer>(&self, serializer: &mut S) -> Result<S::Ok, S::Error> {

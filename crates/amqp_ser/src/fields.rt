@@ -26,9 +26,9 @@ pub enum Keys {
 /// The fields of a struct with their names, in order. The macro [`fields!`] builds them.
 ///
 /// # Implementer notes
-/// `field_trees` lists the fields: name, presence and tree. `serialize_list_parts` and `serialize_map_parts` append the parts that
-/// `field_trees` determines to those that the compound already has. An error must be permitted for every
-/// continuation of the compound.
+/// `field_trees` lists the fields: name, presence and tree. `serialize_list_parts` and
+/// `serialize_map_parts` append the parts that `field_trees` determines to those that the compound
+/// already has. An error must be permitted for every continuation of the compound.
 ///
 /// # Example
 /// `fields! { "x": 1u8, "y": true }` is `c00402500141` as a list, and `c10a04a101785001a1017941` as
@@ -58,7 +58,8 @@ pub trait Fields {
         serializer: &mut S,
         compound: &mut S::Open,
     ) -> Result<(), S::Error>
-        ensures { SerializesParts S.permits S.has (up_to_last (values_of (field_trees self.now))) serializer.old
+        ensures { SerializesParts S.permits S.has
+            (up_to_last (values_of (field_trees self.now))) serializer.old
             compound.old result serializer.new compound.new };
 
     /// Serializes the name, as a key, and the value of each present field into an open compound.
@@ -106,7 +107,8 @@ pub(crate) fn serialize_value_and_rest<S: Serializer, V: Serialize, R: Fields>(
     rest: &R,
 ) -> Result<(), S::Error>
     ensures { SerializesParts S.permits S.has
-        (V.tree value.now ∷ named_parts (key_of keys) (R.field_trees rest.now)) serializer.old compound.old
+        (V.tree value.now ∷ named_parts (key_of keys)
+        (R.field_trees rest.now)) serializer.old compound.old
         result serializer.new compound.new }
 {
     serialize_part(&mut *serializer, &mut *compound, value)?;

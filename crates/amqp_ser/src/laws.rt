@@ -5,7 +5,8 @@
 
 pub mod trees_of_carried_types;
 
-ghost use Rattle.std.specs.Prelude.{◌≡◌, ◌∷◌, [], ◌<◌, ◌^◌, ℕ, Some, true, false, List, length, map};
+ghost use Rattle.std.specs.Prelude.{◌≡◌, ◌∷◌, [], ◌<◌, ◌^◌, ℕ, Some, true, false, List, length};
+ghost use Rattle.std.specs.Prelude.{map};
 ghost use Rattle.std.specs.List.{AllByRecursion, concat};
 ghost use Rattle.amqp_frame.specs.Cut.{IsCut};
 ghost use Rattle.amqp_frame.specs.EncodedValue.{IsEncodedValue};

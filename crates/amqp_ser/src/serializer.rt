@@ -1,6 +1,7 @@
 //! The serializer trait: its laws, its required methods, and the methods that values call.
 
-ghost use Rattle.std.specs.Prelude.{◌≡◌, ◌++◌, ◌∷◌, [], List, Option, Some, None, Result, Ok, Err, MatchResult, IfErr, IsErr, MatchOption, true};
+ghost use Rattle.std.specs.Prelude.{◌≡◌, ◌++◌, ◌∷◌, [], List, Option, Some, None, Result, Ok, Err};
+ghost use Rattle.std.specs.Prelude.{MatchResult, IfErr, IsErr, MatchOption, true};
 ghost use Rattle.amqp_ser.specs.Tree.{Tree, scalar, null, string, binary};
 ghost use Rattle.amqp_ser.specs.Fixed.{fixed_scalar};
 ghost use Rattle.amqp_ser.specs.Ends.{EndsPart};

@@ -4,7 +4,8 @@ ghost use Rattle.std.specs.Prelude.{◌≡◌, ℕ, Option};
 ghost use Rattle.amqp_ser.specs.Tree.{Tree};
 ghost use Rattle.amqp_ser.specs.Marked.{with_marker};
 ghost use Rattle.amqp_size.specs.State.{position_at, context_at};
-ghost use Rattle.amqp_size.specs.Position.{position_of, meant, without_prefix, inner_context_of, resolved_kind_of, the_marker};
+ghost use Rattle.amqp_size.specs.Position.{position_of, meant, without_prefix, inner_context_of};
+ghost use Rattle.amqp_size.specs.Position.{resolved_kind_of, the_marker};
 
 use crate::position::Position;
 use crate::resolved_kind::ResolvedKind;
@@ -74,7 +75,8 @@ impl Context {
     /// Returns the position of the first part of a compound of this kind, with the pending marker.
     #[inline(always)]
     pub(crate) fn inner_context(self, resolved_kind: ResolvedKind) -> Context
-        ensures { (h : ℕ) → context_at result h ≡ inner_context_of resolved_kind (context_at self h) }
+        ensures { (h : ℕ) → context_at result h
+            ≡ inner_context_of resolved_kind (context_at self h) }
     {
         match resolved_kind {
             ResolvedKind::Array => Context::Unmarked(Position::FirstElement),
@@ -135,7 +137,8 @@ impl Context {
     #[inline(always)]
     fn with_transparent_marker(self) -> Context
         ensures meant { (h : ℕ) (t : Option Tree) →
-            meant (context_at result h) t ≡ meant (context_at self h) (with_marker Marker.Transparent t) }
+            meant (context_at result h) t
+            ≡ meant (context_at self h) (with_marker Marker.Transparent t) }
         ensures position { (h : ℕ) →
             position_of (context_at result h) ≡ position_of (context_at self h) }
     {
@@ -148,7 +151,8 @@ impl Context {
     #[inline(always)]
     fn with_scalar_marker(self, marker: ScalarMarker) -> Context
         ensures meant { (h : ℕ) (t : Option Tree) →
-            meant (context_at result h) t ≡ meant (context_at self h) (with_marker (the_marker marker) t) }
+            meant (context_at result h) t
+            ≡ meant (context_at self h) (with_marker (the_marker marker) t) }
         ensures position { (h : ℕ) →
             position_of (context_at result h) ≡ position_of (context_at self h) }
     {

@@ -42,13 +42,16 @@ impl Model for OpenCompound {
       count = a.count;
     } };
 
-    ghost invariant = { λ a. (a.sum ≤ limit_of a.resolved_kind) × (a.before_last ≤ limit_of a.resolved_kind) };
+    ghost invariant = { λ a. (a.sum ≤ limit_of a.resolved_kind)
+        × (a.before_last ≤ limit_of a.resolved_kind) };
 }
 
 impl OpenCompound {
     ghost use Rattle.amqp_size.specs.State.{position_at, context_at};
-    ghost use Rattle.amqp_size.specs.AddPart.{AddsPart, constructor_len_in, PassesLimit, Undescribed};
-    ghost use Rattle.amqp_size.specs.Position.{position_of, without_prefix, inner_context_of, described_context};
+    ghost use Rattle.amqp_size.specs.AddPart.{AddsPart, constructor_len_in, PassesLimit};
+    ghost use Rattle.amqp_size.specs.AddPart.{Undescribed};
+    ghost use Rattle.amqp_size.specs.Position.{position_of, without_prefix, inner_context_of};
+    ghost use Rattle.amqp_size.specs.Position.{described_context};
 
     /// Returns an empty compound of this kind at this position.
     #[inline(always)]
@@ -59,7 +62,8 @@ impl OpenCompound {
     ) -> OpenCompound
         ensures position { result.position ≡ position_of (context_at context prefix_len) }
         ensures resolved_kind { result.resolved_kind ≡ resolved_kind }
-        ensures inner_context { result.inner_context ≡ inner_context_of resolved_kind (context_at context prefix_len) }
+        ensures inner_context { result.inner_context
+            ≡ inner_context_of resolved_kind (context_at context prefix_len) }
         ensures prefix_len { result.prefix_len ≡ prefix_len }
         ensures sum { result.sum ≡ 0 }
         ensures count { result.count ≡ 0 }
@@ -234,7 +238,8 @@ impl OpenCompound {
         ensures kept { MatchResult result
             (λ _. (self.old.count ≡ 0)
             × ((self.new.count ≡ 1)
-            × ((self.new.sum ≡ size) × (self.new.inner_context ≡ context_at after self.old.prefix_len))))
+            × ((self.new.sum ≡ size) × (self.new.inner_context
+            ≡ context_at after self.old.prefix_len))))
             (λ e. (self.new ≡ self.old) × ((e ≡ SizeError.InvalidValue) × (1 ≤ self.old.count))) }
         ensures position { self.new.position ≡ self.old.position }
         ensures resolved_kind { self.new.resolved_kind ≡ self.old.resolved_kind }

@@ -2,7 +2,8 @@
 
 ghost use Rattle.std.specs.Prelude.{◌≡◌, ◌+◌, ℕ, Some, MatchResult};
 ghost use Rattle.amqp_size.specs.State.{position_at};
-ghost use Rattle.amqp_size.specs.Position.{without_prefix, base_position, takes_described, described_position, prefix_len_of};
+ghost use Rattle.amqp_size.specs.Position.{without_prefix, base_position, takes_described};
+ghost use Rattle.amqp_size.specs.Position.{described_position, prefix_len_of};
 
 use crate::size_error::SizeError;
 

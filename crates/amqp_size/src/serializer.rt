@@ -1,6 +1,7 @@
 //! The serializer that measures values, and `serialized_size`.
 
-ghost use Rattle.std.specs.Prelude.{◌≡◌, ◌+◌, ◌≤◌, [], List, Option, Some, None, Result, Ok, Err, IfOk, IfErr, IsErr, true, ℕ};
+ghost use Rattle.std.specs.Prelude.{◌≡◌, ◌+◌, ◌≤◌, [], List, Option, Some, None, Result, Ok, Err};
+ghost use Rattle.std.specs.Prelude.{IfOk, IfErr, IsErr, true, ℕ};
 ghost use Rattle.amqp_ser.specs.Tree.{Tree};
 ghost use Rattle.amqp_ser.specs.Ends.{EndsPart, EndsDescriptor};
 ghost use Rattle.amqp_ser.specs.Composites.{descriptor_of};
@@ -79,8 +80,10 @@ impl Default for SizeSerializer {
 
 impl Serializer for SizeSerializer {
     ghost use Rattle.amqp_size.specs.declared.size_error.SizeError.TheVariants.{InvalidValue};
-    ghost use Rattle.amqp_size.specs.Position.{position_of, meant, without_prefix, described_context};
-    ghost use Rattle.amqp_size.specs.SizeSerializer.{SizePermits, SizeHas, SizeAwaits, SizeAwaitsDescriptor, no_count_on_none};
+    ghost use Rattle.amqp_size.specs.Position.{position_of, meant, without_prefix};
+    ghost use Rattle.amqp_size.specs.Position.{described_context};
+    ghost use Rattle.amqp_size.specs.SizeSerializer.{SizePermits, SizeHas, SizeAwaits};
+    ghost use Rattle.amqp_size.specs.SizeSerializer.{SizeAwaitsDescriptor, no_count_on_none};
     ghost use Rattle.amqp_ser.specs.Compounds.{tree_of_parts, complete};
     ghost use Rattle.amqp_ser.specs.Fixed.{fixed_scalar};
     ghost use Rattle.amqp_ser.specs.Tree.{scalar, null, string, binary};
@@ -236,7 +239,8 @@ impl Serializer for SizeSerializer {
     #[inline(always)]
     fn begin_part(&mut self, compound: &mut OpenCompound)
         ensures ready { (start : SizeSerializer) (kind : CompoundKind) (ps : List (Option Tree)) →
-            SizeHas start kind self.old compound.old ps → SizeAwaits start kind self.new compound.new ps }
+            SizeHas start kind self.old compound.old ps →
+            SizeAwaits start kind self.new compound.new ps }
         ensures single { (start : SizeSerializer) →
             SizeHas start CompoundKind.Single self.old compound.old [] →
             (t : Option Tree) (r : Result ℕ SizeError) (after : SizeSerializer) →
@@ -261,7 +265,8 @@ impl Serializer for SizeSerializer {
             (λ e. (result ≡ Err e)
             × ((compound.new ≡ compound.old)
             × (self.new.context ≡ Unmarked (without_prefix compound.old.position)))) }
-        ensures one_alone { compound.old.resolved_kind ≡ ResolvedKind.Single → 1 ≤ compound.old.count →
+        ensures one_alone { compound.old.resolved_kind ≡ ResolvedKind.Single →
+            1 ≤ compound.old.count →
             IfOk part (λ _. result ≡ Err InvalidValue) }
     {
         // `size_at` has stored the constructor of an array's first element in `context`.
@@ -273,7 +278,8 @@ impl Serializer for SizeSerializer {
 
     #[inline(always)]
     fn begin_descriptor(&mut self, compound: &mut OpenCompound)
-        ensures ready { (start : SizeSerializer) → SizeHas start CompoundKind.Single self.old compound.old [] →
+        ensures ready { (start : SizeSerializer) →
+            SizeHas start CompoundKind.Single self.old compound.old [] →
             SizeAwaitsDescriptor start self.new compound.new }
         ensures context { self.new.context ≡ Unmarked whole_position.Descriptor }
         ensures kept { compound.new ≡ compound.old }
@@ -294,7 +300,8 @@ impl Serializer for SizeSerializer {
             SizeAwaitsDescriptor start before compound.old → SizePermits before d part self.old →
             descriptor_of d ≡ None → IsErr result }
         ensures described { IfOk part
-            (λ n. IfOk result (λ _. described_context compound.old.inner_context n ≡ Some compound.new.inner_context)) }
+            (λ n. IfOk result (λ _. described_context compound.old.inner_context n
+            ≡ Some compound.new.inner_context)) }
         ensures same { IfErr part
             (λ e. (result ≡ Err e)
             × ((compound.new ≡ compound.old)
@@ -318,7 +325,8 @@ impl Serializer for SizeSerializer {
     #[tactic(auto, unfolding(amqp_ser::specs::Compounds::tree_of_parts))]
     #[inline(always)]
     fn end(&mut self, compound: OpenCompound) -> Result<usize, SizeError>
-        ensures answered { (start : SizeSerializer) (kind : CompoundKind) (ps : List (Option Tree)) →
+        ensures answered { (start : SizeSerializer) (kind : CompoundKind)
+            (ps : List (Option Tree)) →
             SizeHas start kind self.old compound ps → complete kind ps ≡ true →
             SizePermits start (tree_of_parts kind ps) result self.new }
         ensures no_tree { (start : SizeSerializer) (kind : CompoundKind) (ps : List (Option Tree)) →

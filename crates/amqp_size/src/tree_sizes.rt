@@ -1,12 +1,14 @@
 //! The sizes of trees at each position, and the trees that a position rejects.
 
-ghost use Rattle.std.specs.Prelude.{◌≡◌, ◌<◌, ◌^◌, ◌+◌, ◌&&◌, ℕ, List, Some, None, Err, true, length};
+ghost use Rattle.std.specs.Prelude.{◌≡◌, ◌<◌, ◌^◌, ◌+◌, ◌&&◌, ℕ, List, Some, None, Err, true};
+ghost use Rattle.std.specs.Prelude.{length};
 ghost use Rattle.amqp_frame.specs.Whole.{is_encoded_value};
 ghost use Rattle.amqp_ser.specs.Tree.{Tree, Trees, lazy, transparent};
 ghost use Rattle.amqp_ser.specs.Limits.{fits};
 ghost use Rattle.amqp_ser.specs.Ranged.{IsRanged, AreRanged, AreBytes};
 ghost use Rattle.amqp_ser.specs.Encoding.{encoding, encoding_each, payload, constructor};
-ghost use Rattle.amqp_ser.specs.Writable.{uniform_arrays, uniform_arrays_each, within_limits, within_limits_each, inside, placed, placed_each};
+ghost use Rattle.amqp_ser.specs.Writable.{uniform_arrays, uniform_arrays_each, within_limits};
+ghost use Rattle.amqp_ser.specs.Writable.{within_limits_each, inside, placed, placed_each};
 ghost use Rattle.amqp_size.specs.Width.{uint_form_len, text_form_len, map_form_len};
 ghost use Rattle.amqp_size.specs.MarkedBytes.{marked_bytes};
 ghost use Rattle.amqp_size.specs.Position.{position_of, without_prefix};
@@ -130,10 +132,12 @@ impl SizeSerializer {
         marker: ScalarMarker,
         bytes: &[u8],
     ) -> Result<usize, SizeError>
-        ensures answered { self.old.context ≡ Unmarked (without_prefix (position_at position prefix_len)) →
+        ensures answered { self.old.context
+            ≡ Unmarked (without_prefix (position_at position prefix_len)) →
             AtPosition (position_at position prefix_len) (marked_bytes marker bytes.now) result
             self.new.context }
-        ensures no_tree { marked_bytes marker bytes.now ≡ None → result ≡ Err SizeError.InvalidValue }
+        ensures no_tree { marked_bytes marker bytes.now ≡ None →
+            result ≡ Err SizeError.InvalidValue }
     {
         match marker {
             ScalarMarker::Lazy => {

@@ -3,9 +3,11 @@
 //! `text_len`, `list_len`, `map_len` and `array_len` accept lengths and counts of any size, and
 //! return an error above the limits.
 
-ghost use Rattle.std.specs.Prelude.{◌≡◌, ◌≤◌, ◌&&◌, ℕ, List, length, true, false, MatchResult, IfOk};
+ghost use Rattle.std.specs.Prelude.{◌≡◌, ◌≤◌, ◌&&◌, ℕ, List, length, true, false, MatchResult};
+ghost use Rattle.std.specs.Prelude.{IfOk};
 ghost use Rattle.amqp_ser.specs.Limits.{fits, is_count};
-ghost use Rattle.amqp_size.specs.Width.{uint_form_len, text_form_len, map_form_len, list_form_len, array_form_len, text_at, list_at, map_at, array_at};
+ghost use Rattle.amqp_size.specs.Width.{uint_form_len, text_form_len, map_form_len, list_form_len};
+ghost use Rattle.amqp_size.specs.Width.{array_form_len, text_at, list_at, map_at, array_at};
 
 use crate::limits::within_limit;
 pub use crate::limits::{MAX_COUNT, MAX_LEN};

@@ -1,6 +1,7 @@
 //! Strings and characters in quotes, with escapes.
 
-ghost use Rattle.std.specs.Prelude.{◌≡◌, ◌-◌, ◌<◌, ◌≤◌, true, false, [], ◌∷◌, ◌++◌, length, take, drop, slice_index};
+ghost use Rattle.std.specs.Prelude.{◌≡◌, ◌-◌, ◌<◌, ◌≤◌, true, false, [], ◌∷◌, ◌++◌, length, take};
+ghost use Rattle.std.specs.Prelude.{drop, slice_index};
 ghost use Rattle.std.specs.Fmt.{WritesOnOk};
 ghost use Rattle.std.specs.List.{flat_map};
 ghost use Rattle.std.specs.Str.{IsCharBoundary, chars};
@@ -74,15 +75,16 @@ fn piece_end(text: &str) -> usize
     text.floor_char_boundary(PIECE)
 }
 
-// Returns the offset of the next byte after `from` that needs an escape in a string, or the length if
-// there is none. The byte at `from` needs none.
+// Returns the offset of the next byte after `from` that needs an escape in a string, or the length
+// if there is none. The byte at `from` needs none.
 fn unescaped_end(bytes: &[u8], from: usize) -> usize
     requires inside { from < length bytes.now }
     requires plain { byte_escaped (slice_index bytes.now from) ≡ slice_index bytes.now from ∷ [] }
     ensures low { from < result }
     ensures high { result ≤ length bytes.now }
     ensures plain { flat_map byte_escaped (take result bytes.now)
-        ≡ flat_map byte_escaped (take from bytes.now) ++ take (result - from) (drop from bytes.now) }
+        ≡ flat_map byte_escaped (take from bytes.now) ++ take (result - from)
+        (drop from bytes.now) }
     ensures stop { result < length bytes.now → slice_index bytes.now result < 128 }
 {
     let mut to = from + 1;

@@ -66,16 +66,16 @@ impl MapBuilder {
     ///
     /// # Errors
     /// Returns `Error::OutOfMemory` if an allocation fails, which can happen in three cases only: a
-    /// key repeats; the keys do not ascend, and one of them is long (`is_short_key`); or the keys do
-    /// not ascend, there are more than 8, and their hashes do not show that they differ.
+    /// key repeats; the keys do not ascend, and one of them is long (`is_short_key`); or the keys
+    /// do not ascend, there are more than 8, and their hashes do not show that they differ.
     ///
     /// # Memory
     /// None if each key is greater than the one before it, or if there are at most 8 entries, all
-    /// keys are short, and none repeats. More short keys take 12 bytes each. If a short key repeats, a
-    /// block for the entries from the first repeated key on. If a key is long, a B-tree of the keys, a
-    /// position for each entry, and a vector of the entries. If there are more than 16 entries and many
-    /// keys have hashes in the same bucket, a B-tree of 64-bit hashes, a vector for each entry, and a
-    /// vector of the entries.
+    /// keys are short, and none repeats. More short keys take 12 bytes each. If a short key
+    /// repeats, a block for the entries from the first repeated key on. If a key is long, a B-tree
+    /// of the keys, a position for each entry, and a vector of the entries. If there are more than
+    /// 16 entries and many keys have hashes in the same bucket, a B-tree of 64-bit hashes, a vector
+    /// for each entry, and a vector of the entries.
     pub fn into_value(self, alloc: Global) -> Result<Value, Error>
         ensures { MatchResult result
             (λ v. tree_of v ≡ map (collected_pairs self))

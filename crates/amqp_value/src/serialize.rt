@@ -18,8 +18,8 @@ impl Serialize for Value {
     }
 }
 
-/// Serializes a value through the methods of the serializer, in a function of its own, so that a value
-/// that is written at once saves no registers for it.
+/// Serializes a value through the methods of the serializer, in a function of its own, so that a
+/// value that is written at once saves no registers for it.
 #[inline(never)]
 #[cycle(serialize)]
 fn serialize_parts<S: Serializer>(value: &Value, serializer: &mut S) -> Result<S::Ok, S::Error>

@@ -7,8 +7,8 @@ ghost use Rattle.amqp_value.specs.ShortKeys.{is_short_key};
 use crate::value::Value;
 use amqp_data::{MAX_HASHED_BINARY, MAX_HASHED_TEXT};
 
-/// Returns whether the hash of the key is computed in few steps: whether it is a scalar, and at most
-/// 256 bytes long if it is a text, or 32 if it is a binary.
+/// Returns whether the hash of the key is computed in few steps: whether it is a scalar, and at
+/// most 256 bytes long if it is a text, or 32 if it is a binary.
 ///
 /// # Example
 /// True for the string `a`, false for an empty list.

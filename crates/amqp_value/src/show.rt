@@ -4,7 +4,8 @@ ghost use Rattle.std.specs.Prelude.{◌++◌, Some, codes};
 ghost use Rattle.std.specs.Fmt.{WritesOnOk};
 ghost use Rattle.amqp_ser.specs.Carried.{descriptor_content};
 ghost use Rattle.amqp_value.specs.TreeOf.{all_of, pairs_trees, tree_of};
-ghost use Rattle.amqp_value.specs.Text.{bytes_text, descriptor_text, items_text, pairs_text, separator, text_of};
+ghost use Rattle.amqp_value.specs.Text.{bytes_text, descriptor_text, items_text, pairs_text};
+ghost use Rattle.amqp_value.specs.Text.{separator, text_of};
 
 use crate::Value;
 use crate::escape::{quote, quote_char};

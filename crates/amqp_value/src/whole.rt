@@ -67,8 +67,8 @@ impl Whole for Value {
     }
 }
 
-/// Appends the encoding of a value in a function of its own, so that the serializer that asks for it
-/// saves no registers for the recursion.
+/// Appends the encoding of a value in a function of its own, so that the serializer that asks for
+/// it saves no registers for the recursion.
 #[inline(never)]
 fn write_apart(value: &Value, hints: &[Hint], taken: &mut usize, out: &mut Vec<u8>) -> bool
     ensures wrote { result ≡ true → Wrote (tree_of value.now) out.old.items out.new.items }

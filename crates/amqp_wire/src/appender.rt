@@ -86,7 +86,9 @@ impl Appender {
 }
 
 impl Sink for Appender {
-    ghost use Rattle.amqp_wire.specs.Forms.{Appends, Inside, Longer, OutMarks, appends_chain, goes_inside, appends_bounded, longer_keeps, longer_self, longer_on, longer_adds, longer_inside};
+    ghost use Rattle.amqp_wire.specs.Forms.{Appends, Inside, Longer, OutMarks, appends_chain};
+    ghost use Rattle.amqp_wire.specs.Forms.{goes_inside, appends_bounded, longer_keeps};
+    ghost use Rattle.amqp_wire.specs.Forms.{longer_self, longer_on, longer_adds, longer_inside};
 
     ghost adds = { Appends };
 

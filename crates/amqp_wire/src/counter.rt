@@ -34,7 +34,9 @@ impl Counter {
 }
 
 impl Sink for Counter {
-    ghost use Rattle.amqp_wire.specs.Forms.{Counts, Counted, CountMarks, Any, counts_chain, counts_inside, counts_bounded, any, any_on, any_adds, any_within, any_keeps};
+    ghost use Rattle.amqp_wire.specs.Forms.{Counts, Counted, CountMarks, Any, counts_chain};
+    ghost use Rattle.amqp_wire.specs.Forms.{counts_inside, counts_bounded, any, any_on, any_adds};
+    ghost use Rattle.amqp_wire.specs.Forms.{any_within, any_keeps};
 
     ghost adds = { Counts };
 

@@ -1,6 +1,7 @@
 //! The serializer that searches for arrays without elements.
 
-ghost use Rattle.std.specs.Prelude.{◌≡◌, ◌||◌, List, Option, Result, Ok, Err, IfErr, IsErr, true, false};
+ghost use Rattle.std.specs.Prelude.{◌≡◌, ◌||◌, List, Option, Result, Ok, Err, IfErr, IsErr, true};
+ghost use Rattle.std.specs.Prelude.{false};
 ghost use Rattle.amqp_ser.specs.Tree.{Tree};
 ghost use Rattle.amqp_wire.specs.Finder.{fresh};
 
@@ -80,7 +81,8 @@ impl Serializer for Finder {
     ghost use Rattle.amqp_ser.specs.declared.kind.CompoundKind.{CompoundKind};
     ghost use Rattle.amqp_ser.specs.Ends.{EndsPart, EndsDescriptor};
     ghost use Rattle.amqp_ser.specs.Composites.{descriptor_of};
-    ghost use Rattle.amqp_wire.specs.Finder.{Awaits, AwaitsDescriptor, Has, Permits, nothing_on_none};
+    ghost use Rattle.amqp_wire.specs.Finder.{Awaits, AwaitsDescriptor, Has, Permits};
+    ghost use Rattle.amqp_wire.specs.Finder.{nothing_on_none};
 
     type Ok = bool;
 

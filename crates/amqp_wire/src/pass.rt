@@ -1,6 +1,7 @@
 //! A pass over a value that may give up.
 
-ghost use Rattle.std.specs.Prelude.{◌≡◌, ◌++◌, ◌∷◌, [], List, ℕ, Some, Result, MatchResult, IfSome, true, length};
+ghost use Rattle.std.specs.Prelude.{◌≡◌, ◌++◌, ◌∷◌, [], List, ℕ, Some, Result, MatchResult, IfSome};
+ghost use Rattle.std.specs.Prelude.{true, length};
 ghost use Rattle.std.specs.Int.{w32, to_be_bytes};
 ghost use Rattle.amqp_ser.specs.Tree.{Scalar, scalar, binary};
 ghost use Rattle.amqp_ser.specs.Limits.{fits};

@@ -144,9 +144,9 @@ impl PassCompound {
         }
     }
 
-    /// Accepts a part, after which the pass has this position: an array gets its constructor from its
-    /// first element, and a single compound has the position after its part. Returns `false`, and
-    /// changes nothing, if no part is accepted.
+    /// Accepts a part, after which the pass has this position: an array gets its constructor from
+    /// its first element, and a single compound has the position after its part. Returns `false`,
+    /// and changes nothing, if no part is accepted.
     #[inline(always)]
     pub(crate) fn take(&mut self, after: Position) -> bool
         ensures open { result ≡ true → self.old.kind ≡ ResolvedKind.Refused → ⊥ }

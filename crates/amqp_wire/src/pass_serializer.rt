@@ -120,7 +120,8 @@ impl<K: Sink> Serializer for Pass<K> {
         compound: &mut PassCompound,
         part: Result<(), GaveUp>,
     ) -> Result<(), GaveUp>
-        ensures step { EndsPart (Gives K.adds K.reads K.extends) (Has K.adds K.reads K.within K.extends K.marks)
+        ensures step { EndsPart (Gives K.adds K.reads K.extends)
+            (Has K.adds K.reads K.within K.extends K.marks)
             (Awaits K.adds K.reads K.within K.extends K.marks)
             self.old compound.old part result self.new compound.new }
         ensures refused { IfErr part (λ _. IsErr result) }
@@ -156,7 +157,8 @@ impl<K: Sink> Serializer for Pass<K> {
         compound: &mut PassCompound,
         part: Result<(), GaveUp>,
     ) -> Result<(), GaveUp>
-        ensures step { EndsDescriptor (Gives K.adds K.reads K.extends) (Has K.adds K.reads K.within K.extends K.marks)
+        ensures step { EndsDescriptor (Gives K.adds K.reads K.extends)
+            (Has K.adds K.reads K.within K.extends K.marks)
             (AwaitsDescriptor K.adds K.reads K.within K.extends K.marks)
             self.old compound.old part result self.new compound.new }
         ensures refused { IfErr part (λ _. IsErr result) }

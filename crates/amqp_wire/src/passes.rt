@@ -28,8 +28,8 @@ pub fn error_of<T: Serialize>(value: &T) -> Error
 /// Returns the length of the encoding, unless the pass gave up, and the hints with those of the
 /// value after them. No clause says that the length and the hints are those of the value.
 ///
-/// The serializer is created here, so that the compiler knows its position in a program that measures
-/// values of several types.
+/// The serializer is created here, so that the compiler knows its position in a program that
+/// measures values of several types.
 ///
 /// # Memory
 /// 8 bytes for each compound, in `hints`.

@@ -8,8 +8,8 @@ use crate::keys::put;
 use std::alloc::{AllocError, Global};
 use std::collections::BTreeMap;
 
-/// Returns the entries, inserted in order: a repeated key keeps its position and gets the new value.
-/// It takes O(k log k) comparisons of k keys.
+/// Returns the entries, inserted in order: a repeated key keeps its position and gets the new
+/// value. It takes O(k log k) comparisons of k keys.
 ///
 /// # Errors
 /// Returns `AllocError` if an allocation fails.

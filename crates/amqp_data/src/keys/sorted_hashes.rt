@@ -13,8 +13,8 @@ use std::collections::BTreeMap;
 use std::hash::{DefaultHasher, Hash, Hasher};
 use std::mem;
 
-/// Returns the entries, inserted in order. A key is compared with those alone that have the same hash
-/// of 64 bits (SipHash-1-3): to find eight by brute force takes 2⁵⁸ hashes.
+/// Returns the entries, inserted in order. A key is compared with those alone that have the same
+/// hash of 64 bits (SipHash-1-3): to find eight by brute force takes 2⁵⁸ hashes.
 ///
 /// # Errors
 /// Returns `AllocError` if an allocation fails.

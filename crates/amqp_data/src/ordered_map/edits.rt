@@ -102,9 +102,9 @@ impl<K: Hash + Eq + Drop, V: Drop> OrderedMap<K, V> {
         self.entries.retain(keep);
     }
 
-    /// Inserts the items of a finite iterator, in order, as by `insert`: a key that is present keeps
-    /// its position and gets the new value. The keys are searched in order for each item, so for
-    /// many keys use an [`OrderedMapBuilder`](crate::OrderedMapBuilder).
+    /// Inserts the items of a finite iterator, in order, as by `insert`: a key that is present
+    /// keeps its position and gets the new value. The keys are searched in order for each item, so
+    /// for many keys use an [`OrderedMapBuilder`](crate::OrderedMapBuilder).
     ///
     /// # Errors
     /// Returns `Error::OutOfMemory` if an allocation fails. The items before are then inserted.

@@ -29,8 +29,8 @@ impl<K: Hash + Eq, V> OrderedMap<K, V> {
     /// Returns the entry of the key. The keys are searched in order, once.
     ///
     /// # Example
-    /// For the map encoded as `c10402500141`, `*map.entry(1).or_insert(true)? = false` gives the map
-    /// encoded as `c10402500142`.
+    /// For the map encoded as `c10402500141`, `*map.entry(1).or_insert(true)? = false` gives the
+    /// map encoded as `c10402500142`.
     pub fn entry(&mut self, key: K) -> Entry<'_, K, V>
         ensures same_map { (entry_map result).ghost_name ≡ self.entry.ghost_name }
         ensures unchanged { (entry_map result).now ≡ self.old }
@@ -82,8 +82,8 @@ impl<'a, K: Hash + Eq, V> Entry<'a, K, V> {
         }
     }
 
-    /// Returns a mutable reference to the value of the key. If the key is absent, it is appended with
-    /// the value `default` first.
+    /// Returns a mutable reference to the value of the key. If the key is absent, it is appended
+    /// with the value `default` first.
     ///
     /// # Errors
     /// Returns `AllocError` if an allocation for a new key fails. The map is then unchanged,
@@ -93,8 +93,8 @@ impl<'a, K: Hash + Eq, V> Entry<'a, K, V> {
     /// Allocates nothing if the key is present.
     ///
     /// # Example
-    /// For the map encoded as `c10402500141`, `*map.entry(2).or_insert(true)? = false` gives the map
-    /// encoded as `c10704500141500242`.
+    /// For the map encoded as `c10402500141`, `*map.entry(2).or_insert(true)? = false` gives the
+    /// map encoded as `c10704500141500242`.
     pub fn or_insert(self, default: V) -> Result<&'a mut V, AllocError>
     where
         K: Drop,
@@ -110,8 +110,8 @@ impl<'a, K: Hash + Eq, V> Entry<'a, K, V> {
         }
     }
 
-    /// Like [`or_insert`](Entry::or_insert), with the value that `default` returns. It is called only
-    /// if the key is absent.
+    /// Like [`or_insert`](Entry::or_insert), with the value that `default` returns. It is called
+    /// only if the key is absent.
     ///
     /// # Errors
     /// Returns `AllocError` if an allocation for a new key fails. The map is then unchanged,
@@ -121,8 +121,8 @@ impl<'a, K: Hash + Eq, V> Entry<'a, K, V> {
     /// Allocates nothing if the key is present.
     ///
     /// # Example
-    /// For the map encoded as `c10402500141`, `*map.entry(2).or_insert_with(|| true)? = false` gives
-    /// the map encoded as `c10704500141500242`.
+    /// For the map encoded as `c10402500141`, `*map.entry(2).or_insert_with(|| true)? = false`
+    /// gives the map encoded as `c10704500141500242`.
     pub fn or_insert_with<F: FnOnce() -> V>(self, default: F) -> Result<&'a mut V, AllocError>
     where
         K: Drop,

@@ -1,6 +1,7 @@
 //! Calls that look at a map.
 
-ghost use Rattle.std.specs.Prelude.{◌≡◌, ◌-◌, ◌<◌, ◌^◌, length, is_some, slice_get, option_map, position};
+ghost use Rattle.std.specs.Prelude.{◌≡◌, ◌-◌, ◌<◌, ◌^◌, length, is_some, slice_get, option_map};
+ghost use Rattle.std.specs.Prelude.{position};
 ghost use Rattle.std.specs.Prelude.{IfSome, Some};
 ghost use Rattle.std.specs.Iterator.{UpTo, YieldsFirstBy, item_count};
 ghost use Rattle.std.specs.Iterator.SizeHint.{IsWithinCount};
@@ -30,12 +31,12 @@ impl<K: Hash + Eq, V> OrderedMap<K, V> {
 }
 
 impl<K: AsStr, V> OrderedMap<K, V> {
-    /// Returns the value of the first key with this text. The keys are searched in order, and no key
-    /// is made.
+    /// Returns the value of the first key with this text. The keys are searched in order, and no
+    /// key is made.
     ///
     /// # Example
-    /// In a map from the symbol `a` to the ubyte 1, encoded as `c10602a301615001`, the text `a` gives
-    /// `Some(&1)` and the text `b` gives `None`.
+    /// In a map from the symbol `a` to the ubyte 1, encoded as `c10602a301615001`, the text `a`
+    /// gives `Some(&1)` and the text `b` gives `None`.
     pub fn get_str(&self, text: &str) -> Option<&V>
         ensures { option_copied result
             ≡ lookup (λ key. bytes_eq (K.text key) text.now) (entries_of self.now) }

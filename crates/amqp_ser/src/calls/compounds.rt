@@ -1,10 +1,15 @@
 //! The calls that serialize sequences, tuples, structs, maps, variants and described values.
 
-ghost use Rattle.std.specs.Prelude.{◌≡◌, [], List, Option, None, Result, Ok, Err, IfOk, IfErr, IsOk, IsErr, not, true, false};
+ghost use Rattle.std.specs.Prelude.{◌≡◌, [], List, Option, None, Result, Ok, Err, IfOk, IfErr};
+ghost use Rattle.std.specs.Prelude.{IsOk, IsErr, not, true, false};
 ghost use Rattle.amqp_ser.specs.Composites.{as_described, descriptor_of};
 ghost use Rattle.amqp_ser.specs.Marked.{is_descriptor_name, is_value_name, with_marker, marker_of};
-ghost use Rattle.amqp_ser.specs.OpenCompounds.{list_reference, ListHas, map_reference, MapHas, has_key, variant_reference, VariantHas, struct_variant_reference, StructVariantHas};
-ghost use Rattle.amqp_ser.specs.OpenStructs.{struct_reference, form_of, has_descriptor, has_field, StructHas, tuple_struct_reference, is_single, lacks_descriptor, is_open, TupleStructHas};
+ghost use Rattle.amqp_ser.specs.OpenCompounds.{list_reference, ListHas, map_reference, MapHas};
+ghost use Rattle.amqp_ser.specs.OpenCompounds.{has_key, variant_reference, VariantHas};
+ghost use Rattle.amqp_ser.specs.OpenCompounds.{struct_variant_reference, StructVariantHas};
+ghost use Rattle.amqp_ser.specs.OpenStructs.{struct_reference, form_of, has_descriptor, has_field};
+ghost use Rattle.amqp_ser.specs.OpenStructs.{StructHas, tuple_struct_reference, is_single};
+ghost use Rattle.amqp_ser.specs.OpenStructs.{lacks_descriptor, is_open, TupleStructHas};
 ghost use Rattle.amqp_ser.specs.Structs.{struct_encoding, is_basic_name, is_tagged, named_variant};
 
 use crate::compound::described::serialize_described;
@@ -60,7 +65,8 @@ pub trait SerializeCompounds: Serializer {
     ) -> Result<Self::Ok, Self::Error>
     where
         Self: Sized,
-        ensures { Self.permits self.old (with_marker (marker_of name.now) (T.tree v.now)) result self.new }
+        ensures { Self.permits self.old (with_marker (marker_of name.now)
+            (T.tree v.now)) result self.new }
     {
         let marker = marker_named(name);
         self.set_marker(marker);

@@ -1,7 +1,8 @@
 //! The calls that serialize scalars of Rust's types.
 
 ghost use Rattle.std.specs.Prelude.{◌≡◌, Some, Result, Ok, false};
-ghost use Rattle.amqp_ser.specs.Tree.{scalar, null, bool, ubyte, ushort, uint, ulong, byte, short, int, long, float, double, char};
+ghost use Rattle.amqp_ser.specs.Tree.{scalar, null, bool, ubyte, ushort, uint, ulong, byte, short};
+ghost use Rattle.amqp_ser.specs.Tree.{int, long, float, double, char};
 ghost use Rattle.amqp_data.specs.Fixed.{f32_bits, f64_bits};
 
 use crate::fixed::Fixed;

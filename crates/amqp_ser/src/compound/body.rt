@@ -1,6 +1,7 @@
 //! The body of a struct: a list or a map, which replaces the single compound at the first field.
 
-ghost use Rattle.std.specs.Prelude.{◌≡◌, ◌++◌, [], List, Option, None, Err, MatchResult, IfErr, IsErr};
+ghost use Rattle.std.specs.Prelude.{◌≡◌, ◌++◌, [], List, Option, None, Err, MatchResult, IfErr};
+ghost use Rattle.std.specs.Prelude.{IsErr};
 ghost use Rattle.amqp_ser.specs.Tree.{Tree};
 ghost use Rattle.amqp_ser.specs.Compounds.{tree_of_parts};
 ghost use Rattle.amqp_ser.specs.StructSteps.{EndStep};
@@ -64,9 +65,11 @@ pub(crate) fn open_body<S: Serializer, T: Serialize>(
 ) -> Result<(), S::Error>
     ensures { (start : S) → S.has start CompoundKind.Single serializer.old compound.old [] →
         MatchResult result
-        (λ _. HasDescribed S.permits S.has start None (fields_kind in_map) serializer.new compound.new
+        (λ _. HasDescribed S.permits S.has start None
+        (fields_kind in_map) serializer.new compound.new
         (field_parts in_map key.now (T.tree value.now)))
-        (λ e. S.has start CompoundKind.Single serializer.new compound.new [] × ((rest : List (Option Tree)) →
+        (λ e. S.has start CompoundKind.Single serializer.new compound.new []
+        × ((rest : List (Option Tree)) →
         S.permits start
         (tree_of_parts (fields_kind in_map) (field_parts in_map key.now (T.tree value.now) ++ rest))
         (Err e) serializer.new)) }

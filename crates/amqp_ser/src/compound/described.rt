@@ -19,14 +19,17 @@ pub(crate) fn serialize_descriptor<S: Serializer, T: Serialize>(
     compound: &mut S::Open,
     value: &T,
 ) -> Result<(), S::Error>
-    ensures accepted { (start : S) → S.has start CompoundKind.Single serializer.old compound.old [] →
+    ensures accepted { (start : S) →
+        S.has start CompoundKind.Single serializer.old compound.old [] →
         MatchResult result
-        (λ _. HasDescribed S.permits S.has start (Some (T.tree value.now)) CompoundKind.Single serializer.new
+        (λ _. HasDescribed S.permits S.has start
+        (Some (T.tree value.now)) CompoundKind.Single serializer.new
         compound.new [])
         (λ e. S.has start CompoundKind.Single serializer.new compound.new [] × ((t : Option Tree) →
         S.permits start (as_described (descriptor_of (T.tree value.now)) t)
         (Err e) serializer.new)) }
-    ensures other_kinds { (start : S) → S.has start CompoundKind.Single serializer.old compound.old [] →
+    ensures other_kinds { (start : S) →
+        S.has start CompoundKind.Single serializer.old compound.old [] →
         descriptor_of (T.tree value.now) ≡ None → IsErr result }
 {
     serializer.begin_descriptor(compound);
@@ -56,7 +59,8 @@ pub(crate) fn end_single<S: Serializer>(
     serializer: &mut S,
     compound: S::Open,
 ) -> Result<S::Ok, S::Error>
-    ensures { (start : S) (p : Option Tree) → S.has start CompoundKind.Single serializer.old compound (p ∷ []) →
+    ensures { (start : S) (p : Option Tree) →
+        S.has start CompoundKind.Single serializer.old compound (p ∷ []) →
         S.permits start p result serializer.new }
 {
     serializer.end(compound)

@@ -1,6 +1,7 @@
 //! Serialization of a field of a struct that is a list.
 
-ghost use Rattle.std.specs.Prelude.{◌≡◌, ◌∷◌, [], List, Option, Some, None, Result, Err, MatchResult, true, false};
+ghost use Rattle.std.specs.Prelude.{◌≡◌, ◌∷◌, [], List, Option, Some, None, Result, Err};
+ghost use Rattle.std.specs.Prelude.{MatchResult, true, false};
 ghost use Rattle.amqp_ser.specs.Tree.{Tree};
 ghost use Rattle.amqp_ser.specs.Compounds.{tree_of_parts};
 ghost use Rattle.amqp_ser.specs.CompoundSteps.{SerializesPart};
@@ -78,8 +79,10 @@ pub(crate) fn serialize_list_field<S: Serializer, T: Serialize>(
         MatchResult result
         (λ _. HasDescribed S.permits S.has start None CompoundKind.List serializer.new compound.new
         (T.tree value.now ∷ []))
-        (λ e. S.has start CompoundKind.Single serializer.new compound.new [] × ((rest : List (Option Tree)) →
-        S.permits start (tree_of_parts CompoundKind.List (T.tree value.now ∷ rest)) (Err e) serializer.new)) }
+        (λ e. S.has start CompoundKind.Single serializer.new compound.new []
+        × ((rest : List (Option Tree)) →
+        S.permits start (tree_of_parts CompoundKind.List (T.tree value.now ∷ rest))
+        (Err e) serializer.new)) }
     ensures next { opened ≡ true →
         SerializesPart S.permits S.has CompoundKind.List (T.tree value.now) serializer.old compound.old result
         serializer.new compound.new }

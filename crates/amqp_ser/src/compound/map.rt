@@ -1,11 +1,13 @@
 //! Maps that are being serialized, with a key whose value may be pending.
 
-ghost use Rattle.std.specs.Prelude.{◌≡◌, [], List, Option, Err, MatchResult, IfErr, IsErr, not, true, false};
+ghost use Rattle.std.specs.Prelude.{◌≡◌, [], List, Option, Err, MatchResult, IfErr, IsErr, not};
+ghost use Rattle.std.specs.Prelude.{true, false};
 ghost use mir.Syntax.{named};
 ghost use Rattle.std.specs.Borrow.{Lends, sem};
 ghost use Rattle.amqp_ser.specs.Tree.{Tree};
 ghost use Rattle.amqp_ser.specs.Compounds.{tree_of_parts, paired};
-ghost use Rattle.amqp_ser.specs.OpenCompounds.{map_reference, map_with_serializer, MapHas, has_key, SerializesMapPart, SerializesPair, RefusesInTurn};
+ghost use Rattle.amqp_ser.specs.OpenCompounds.{map_reference, map_with_serializer, MapHas, has_key};
+ghost use Rattle.amqp_ser.specs.OpenCompounds.{SerializesMapPart, SerializesPair, RefusesInTurn};
 
 use super::part::{serialize_map_entry, serialize_part};
 use crate::kind::CompoundKind;
@@ -176,7 +178,8 @@ impl<'a, S: Serializer> SerializeMap<'a, S> {
         ensures ended { (start : S) (ps : List (Option Tree)) →
             MapHas S.has start self.entry ps → not (has_key self.entry) ≡ paired ps →
             S.permits start (tree_of_parts CompoundKind.Map ps) result self.exit.0.now }
-        ensures invalid { has_key self.entry ≡ true → IsErr result × IfErr result S.is_misuse_error }
+        ensures invalid { has_key self.entry ≡ true → IsErr result
+            × IfErr result S.is_misuse_error }
     {
         let SerializeMap {
             serializer,

@@ -38,8 +38,10 @@ pub(crate) fn serialize_map_entry<S: Serializer, K: Serialize, V: Serialize>(
         MatchResult result
         (λ _. S.has start CompoundKind.Map serializer.new compound.new
         (ps ++ (K.tree key.now ∷ (V.tree value.now ∷ []))))
-        (λ e. S.has start CompoundKind.Map serializer.new compound.new ps × ((rest : List (Option Tree)) →
-        S.permits start (tree_of_parts CompoundKind.Map (ps ++ (K.tree key.now ∷ (V.tree value.now ∷ rest))))
+        (λ e. S.has start CompoundKind.Map serializer.new compound.new ps
+        × ((rest : List (Option Tree)) →
+        S.permits start (tree_of_parts CompoundKind.Map
+        (ps ++ (K.tree key.now ∷ (V.tree value.now ∷ rest))))
         (Err e) serializer.new)) }
 {
     serialize_part(&mut *serializer, &mut *compound, key)?;

@@ -5,7 +5,8 @@ ghost use mir.Syntax.{named};
 ghost use Rattle.std.specs.Borrow.{Lends, sem};
 ghost use Rattle.amqp_ser.specs.Tree.{Tree};
 ghost use Rattle.amqp_ser.specs.Compounds.{tree_of_parts};
-ghost use Rattle.amqp_ser.specs.OpenCompounds.{list_reference, list_with_serializer, ListHas, SerializesListPart};
+ghost use Rattle.amqp_ser.specs.OpenCompounds.{list_reference, list_with_serializer, ListHas};
+ghost use Rattle.amqp_ser.specs.OpenCompounds.{SerializesListPart};
 
 use super::part::serialize_part;
 use crate::kind::CompoundKind;
@@ -86,7 +87,8 @@ impl<'a, S: Serializer> SerializeSeq<'a, S> {
     pub fn serialize_element<T: Serialize>(&mut self, value: &T) -> Result<(), S::Error>
         ensures same { (list_reference self.new).ghost_name
             ≡ (list_reference self.old).ghost_name }
-        ensures step { SerializesListPart S.permits S.has (T.tree value.now) self.old result self.new }
+        ensures step { SerializesListPart S.permits S.has
+            (T.tree value.now) self.old result self.new }
     {
         serialize_part(&mut *self.serializer, &mut self.compound, value)
     }

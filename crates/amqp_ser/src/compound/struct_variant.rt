@@ -5,7 +5,9 @@ ghost use mir.Syntax.{named};
 ghost use Rattle.std.specs.Borrow.{Lends, sem};
 ghost use Rattle.amqp_ser.specs.Tree.{Tree};
 ghost use Rattle.amqp_ser.specs.Compounds.{tree_of_parts};
-ghost use Rattle.amqp_ser.specs.OpenCompounds.{struct_variant_reference, struct_variant_with_serializer, StructVariantHas, SerializesStructVariantPart};
+ghost use Rattle.amqp_ser.specs.OpenCompounds.{struct_variant_reference};
+ghost use Rattle.amqp_ser.specs.OpenCompounds.{struct_variant_with_serializer, StructVariantHas};
+ghost use Rattle.amqp_ser.specs.OpenCompounds.{SerializesStructVariantPart};
 
 use super::part::serialize_part;
 use crate::kind::CompoundKind;
@@ -89,7 +91,8 @@ impl<'a, S: Serializer> SerializeStructVariant<'a, S> {
     ) -> Result<(), S::Error>
         ensures same { (struct_variant_reference self.new).ghost_name
             ≡ (struct_variant_reference self.old).ghost_name }
-        ensures step { SerializesStructVariantPart S.permits S.has (T.tree value.now) self.old result
+        ensures step { SerializesStructVariantPart S.permits S.has
+            (T.tree value.now) self.old result
             self.new }
     {
         serialize_part(&mut *self.serializer, &mut self.compound, value)

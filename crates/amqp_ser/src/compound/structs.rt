@@ -4,7 +4,9 @@ ghost use Rattle.std.specs.Prelude.{◌≡◌, ◌||◌, [], IfOk, IfErr, None, 
 ghost use mir.Syntax.{named};
 ghost use Rattle.std.specs.Borrow.{Lends, sem};
 ghost use Rattle.amqp_ser.specs.Marked.{is_descriptor_name};
-ghost use Rattle.amqp_ser.specs.OpenStructs.{struct_reference, struct_with_serializer, form_of, has_descriptor, has_field, StructFieldStep, StructHas, EndsStruct};
+ghost use Rattle.amqp_ser.specs.OpenStructs.{struct_reference, struct_with_serializer, form_of};
+ghost use Rattle.amqp_ser.specs.OpenStructs.{has_descriptor, has_field, StructFieldStep, StructHas};
+ghost use Rattle.amqp_ser.specs.OpenStructs.{EndsStruct};
 
 use super::any_field::serialize_any_field;
 use super::body::end_fields;
@@ -162,7 +164,8 @@ impl<'a, S: Serializer> SerializeStruct<'a, S> {
         value: &T,
     ) -> Result<(), S::Error>
         ensures ok { IfOk result
-            (λ _. (has_descriptor self.new ≡ (is_descriptor_name key.now || has_descriptor self.old))
+            (λ _. (has_descriptor self.new
+            ≡ (is_descriptor_name key.now || has_descriptor self.old))
             × (has_field self.new ≡ (not (is_descriptor_name key.now) || has_field self.old))) }
         ensures step { StructFieldStep S.permits S.has S.is_misuse_error key.now (T.tree value.now)
             self.old result self.new }

@@ -4,7 +4,9 @@ ghost use Rattle.std.specs.Prelude.{◌≡◌, [], IfOk, IfErr, None, ◌||◌, 
 ghost use mir.Syntax.{named};
 ghost use Rattle.std.specs.Borrow.{Lends, sem};
 ghost use Rattle.amqp_ser.specs.StructSteps.{TupleFieldStep};
-ghost use Rattle.amqp_ser.specs.OpenStructs.{tuple_struct_reference, tuple_struct_with_serializer, is_single, lacks_descriptor, is_open, TupleStructFieldStep, TupleStructHas, EndsTupleStruct};
+ghost use Rattle.amqp_ser.specs.OpenStructs.{tuple_struct_reference, tuple_struct_with_serializer};
+ghost use Rattle.amqp_ser.specs.OpenStructs.{is_single, lacks_descriptor, is_open};
+ghost use Rattle.amqp_ser.specs.OpenStructs.{TupleStructFieldStep, TupleStructHas, EndsTupleStruct};
 
 use super::body::{end_fields, open_body};
 use super::described::{serialize_descriptor, serialize_single};

@@ -5,7 +5,8 @@ ghost use mir.Syntax.{named};
 ghost use Rattle.std.specs.Borrow.{Lends, sem};
 ghost use Rattle.amqp_ser.specs.Tree.{Tree};
 ghost use Rattle.amqp_ser.specs.Compounds.{tree_of_parts};
-ghost use Rattle.amqp_ser.specs.OpenCompounds.{variant_reference, variant_with_serializer, VariantHas, SerializesVariantPart};
+ghost use Rattle.amqp_ser.specs.OpenCompounds.{variant_reference, variant_with_serializer};
+ghost use Rattle.amqp_ser.specs.OpenCompounds.{VariantHas, SerializesVariantPart};
 
 use super::part::serialize_part;
 use crate::kind::CompoundKind;
@@ -85,7 +86,8 @@ impl<'a, S: Serializer> SerializeTupleVariant<'a, S> {
     pub fn serialize_field<T: Serialize>(&mut self, value: &T) -> Result<(), S::Error>
         ensures same { (variant_reference self.new).ghost_name
             ≡ (variant_reference self.old).ghost_name }
-        ensures step { SerializesVariantPart S.permits S.has (T.tree value.now) self.old result self.new }
+        ensures step { SerializesVariantPart S.permits S.has
+            (T.tree value.now) self.old result self.new }
     {
         serialize_part(&mut *self.serializer, &mut self.compound, value)
     }

@@ -4,8 +4,10 @@
 ghost use Rattle.std.specs.Prelude.{Some};
 ghost use Rattle.amqp_ser.specs.Carried.{array_of, descriptor_content, transparent_of};
 ghost use Rattle.amqp_ser.specs.Composites.{as_described};
-ghost use Rattle.amqp_ser.specs.Tree.{scalar, float, double, decimal32, decimal64, decimal128, timestamp, uuid, binary, symbol};
-ghost use Rattle.amqp_data.specs.Fixed.{dec32_bytes, dec64_bytes, dec128_bytes, f32_bits, f64_bits, milliseconds_of, uuid_bytes};
+ghost use Rattle.amqp_ser.specs.Tree.{scalar, float, double, decimal32, decimal64, decimal128};
+ghost use Rattle.amqp_ser.specs.Tree.{timestamp, uuid, binary, symbol};
+ghost use Rattle.amqp_data.specs.Fixed.{dec32_bytes, dec64_bytes, dec128_bytes, f32_bits, f64_bits};
+ghost use Rattle.amqp_data.specs.Fixed.{milliseconds_of, uuid_bytes};
 ghost use Rattle.amqp_data.specs.Items.{array_items, byte_buf_bytes, transparent_items};
 ghost use Rattle.amqp_data.specs.Text.{symbol_ref_text, symbol_text};
 

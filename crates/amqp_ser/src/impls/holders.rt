@@ -73,7 +73,8 @@ pub fn serialize_items<T: Serialize, S: Serializer>(
     items: &[T],
     serializer: &mut S,
 ) -> Result<S::Ok, S::Error>
-    ensures { S.permits serializer.old (tree_of_parts List (map T.tree items.now)) result serializer.new }
+    ensures { S.permits serializer.old (tree_of_parts List
+        (map T.tree items.now)) result serializer.new }
 {
     let mut seq = serializer.serialize_seq(Some(items.len()))?;
     for item in items {

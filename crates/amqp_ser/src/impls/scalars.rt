@@ -1,7 +1,8 @@
 //! Null, booleans, integers and characters.
 
 ghost use Rattle.std.specs.Prelude.{Some};
-ghost use Rattle.amqp_ser.specs.Tree.{scalar, null, bool, ubyte, ushort, uint, ulong, byte, short, int, long, char};
+ghost use Rattle.amqp_ser.specs.Tree.{scalar, null, bool, ubyte, ushort, uint, ulong, byte, short};
+ghost use Rattle.amqp_ser.specs.Tree.{int, long, char};
 
 use crate::calls::scalars::SerializeScalars;
 use crate::serialize::Serialize;

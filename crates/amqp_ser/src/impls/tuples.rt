@@ -42,7 +42,8 @@ impl<A: Serialize, B: Serialize, C: Serialize> Serialize for (A, B, C) {
 }
 
 impl<A: Serialize, B: Serialize, C: Serialize, D: Serialize> Serialize for (A, B, C, D) {
-    ghost tree = { λ t. tree_of_parts List (A.tree t.0 ∷ B.tree t.1 ∷ C.tree t.2 ∷ D.tree t.3 ∷ []) };
+    ghost tree = { λ t. tree_of_parts List
+        (A.tree t.0 ∷ B.tree t.1 ∷ C.tree t.2 ∷ D.tree t.3 ∷ []) };
 
     fn serialize<S: Serializer>(&self, serializer: &mut S) -> Result<S::Ok, S::Error> {
         let mut tuple = serializer.serialize_tuple(4)?;

@@ -4,7 +4,8 @@
 //! independently of the implementations. A compound has a tree if and only if all its parts have
 //! one.
 
-ghost use Rattle.std.specs.Prelude.{◌≡◌, ◌∷◌, [], ℕ, ℤ, List, Bool, true, false, Some, None, Box, String, Vec, map, option_map, string_bytes};
+ghost use Rattle.std.specs.Prelude.{◌≡◌, ◌∷◌, [], ℕ, ℤ, List, Bool, true, false, Some, None, Box};
+ghost use Rattle.std.specs.Prelude.{String, Vec, map, option_map, string_bytes};
 ghost use Rattle.std.specs.Global.{Global};
 ghost use Rattle.amqp_data.specs.Fixed.{dec32_bytes, dec64_bytes, dec128_bytes};
 ghost use Rattle.amqp_data.specs.Fixed.{f32_bits, f64_bits, milliseconds_of, uuid_bytes};

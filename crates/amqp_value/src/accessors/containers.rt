@@ -15,8 +15,8 @@ impl Value {
     /// Returns the items if the value is a list.
     ///
     /// # Example
-    /// `Some` with the ubytes 1 and 2 for the list encoded as `c0050250015002`. `None` for the array
-    /// encoded as `e00402500102`.
+    /// `Some` with the ubytes 1 and 2 for the list encoded as `c0050250015002`. `None` for the
+    /// array encoded as `e00402500102`.
     pub fn as_list(&self) -> Option<&[Value]>
         ensures { option_copied result ≡ option_map (λ list. list.items) (list_in self.now) }
     {
@@ -70,8 +70,8 @@ impl Value {
     /// Returns the item of a list or the element of an array at a position, from 0.
     ///
     /// # Example
-    /// `Some(&Value::Ubyte(2))` for the position 1 in the list encoded as `c0050250015002` and in the
-    /// array encoded as `e00402500102`. `None` for the position 2.
+    /// `Some(&Value::Ubyte(2))` for the position 1 in the list encoded as `c0050250015002` and in
+    /// the array encoded as `e00402500102`. `None` for the position 2.
     pub fn index(&self, at: usize) -> Option<&Value>
         ensures { option_copied result
             ≡ option_and_then (λ items. slice_get items at) (items_in self.now) }

@@ -32,8 +32,8 @@ impl Value {
     /// Returns a mutable reference to the elements if the value is an array.
     ///
     /// # Example
-    /// For the array encoded as `e00402500102`, `*elements = Array::from(Vec::new(alloc))` gives the
-    /// array encoded as `e00100`.
+    /// For the array encoded as `e00402500102`, `*elements = Array::from(Vec::new(alloc))` gives
+    /// the array encoded as `e00100`.
     pub fn as_array_mut(&mut self) -> Option<&mut Array<Value>>
         ensures* writes_back { sem 𝓛 (lends_array self.entry result) }
         ensures content { option_copied_mut result ≡ array_in self.old }

@@ -25,8 +25,8 @@ impl Value {
     /// Returns the number if the value is an integer of any of the eight types and not negative.
     ///
     /// # Example
-    /// `Some(7)` for the ubyte 7, encoded as `5007`, and for the int 7, encoded as `5407`. `None` for
-    /// the int -1, encoded as `54ff`.
+    /// `Some(7)` for the ubyte 7, encoded as `5007`, and for the int 7, encoded as `5407`. `None`
+    /// for the int -1, encoded as `54ff`.
     pub fn as_u64(&self) -> Option<u64>
         ensures { result ≡ natural_in self.now }
     {

@@ -42,8 +42,8 @@ impl Value {
     /// Returns the bytes if the value is a binary.
     ///
     /// # Example
-    /// `Some` with the bytes 61, 62, 63 for the binary encoded as `a003616263`. `None` for the string
-    /// `abc`, encoded as `a103616263`.
+    /// `Some` with the bytes 61, 62, 63 for the binary encoded as `a003616263`. `None` for the
+    /// string `abc`, encoded as `a103616263`.
     pub fn as_binary(&self) -> Option<&[u8]>
         ensures { option_copied result ≡ option_map byte_buf_bytes (binary_in self.now) }
     {

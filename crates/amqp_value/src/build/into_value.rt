@@ -5,7 +5,9 @@ ghost use Rattle.amqp_data.specs.Text.{symbol_ref_text};
 ghost use Rattle.amqp_ser.specs.Tree.{scalar, string, symbol};
 ghost use Rattle.amqp_value.specs.TreeOf.{tree_of};
 ghost use Rattle.amqp_value.specs.declared.value.Value.{Value};
-ghost use Rattle.amqp_value.specs.declared.value.Value.TheVariants.{Array as ArrayValue, List as ListValue, Map as MapValue, Null};
+ghost use Rattle.amqp_value.specs.declared.value.Value.TheVariants.{Array as ArrayValue};
+ghost use Rattle.amqp_value.specs.declared.value.Value.TheVariants.{List as ListValue};
+ghost use Rattle.amqp_value.specs.declared.value.Value.TheVariants.{Map as MapValue, Null};
 
 use crate::Value;
 use amqp_data::{Array, Error, OrderedMap, Symbol, SymbolRef};

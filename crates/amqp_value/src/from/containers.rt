@@ -113,10 +113,11 @@ impl Value {
     /// Returns `Error::OutOfMemory` if an allocation fails. The argument is dropped.
     ///
     /// # Memory
-    /// Allocates once from `alloc` for the entries, or not at all if there are none. The capacity is
-    /// a power of two, at least 4, as after insertions one by one. To find equal keys, it allocates
-    /// as `MapBuilder::into_value` if all keys are short (`is_short_key`) or if there are many.
-    /// Otherwise it allocates a block for the entries from the first repeated key on, if there is one.
+    /// Allocates once from `alloc` for the entries, or not at all if there are none. The capacity
+    /// is a power of two, at least 4, as after insertions one by one. To find equal keys, it
+    /// allocates as `MapBuilder::into_value` if all keys are short (`is_short_key`) or if there are
+    /// many. Otherwise it allocates a block for the entries from the first repeated key on, if
+    /// there is one.
     ///
     /// # Example
     /// `1u8` to `true` gives a `Map` that is encoded as `c10402500141`.
@@ -146,10 +147,11 @@ impl Value {
     /// Returns `Error::OutOfMemory` if an allocation fails. The argument is dropped.
     ///
     /// # Memory
-    /// Allocates once from `alloc` for the entries, or not at all if there are none. The capacity is
-    /// a power of two, at least 4, as after insertions one by one. To find equal keys, it allocates
-    /// as `MapBuilder::into_value` if all keys are short (`is_short_key`) or if there are many.
-    /// Otherwise it allocates a block for the entries from the first repeated key on, if there is one.
+    /// Allocates once from `alloc` for the entries, or not at all if there are none. The capacity
+    /// is a power of two, at least 4, as after insertions one by one. To find equal keys, it
+    /// allocates as `MapBuilder::into_value` if all keys are short (`is_short_key`) or if there are
+    /// many. Otherwise it allocates a block for the entries from the first repeated key on, if
+    /// there is one.
     ///
     /// # Example
     /// The ubyte keys 2 to `true` and 1 to `false` give a `Map` that is encoded as
@@ -195,8 +197,8 @@ fn inserted(alloc: Global, pairs: Vec<(Value, Value)>) -> Result<Value, Error>
     Ok(Value::Map(entries))
 }
 
-// Returns the capacity of a vector of entries to which `len` entries were pushed: a power of two, at
-// least 4, or 0 for no entries.
+// Returns the capacity of a vector of entries to which `len` entries were pushed: a power of two,
+// at least 4, or 0 for no entries.
 fn grown_capacity(len: usize) -> usize
     ensures { len ≤ result }
 {

@@ -69,8 +69,8 @@ pub fn scalars_come_back()
         ⟦<Symbol as TryFrom<Value>>⟧.try_from_gives }
 {}
 
-/// A list converts to a `Vec`, and an array to an `Array`, whose elements are those of the list or of
-/// the array, converted in order. Any other value is returned unchanged.
+/// A list converts to a `Vec`, and an array to an `Array`, whose elements are those of the list or
+/// of the array, converted in order. Any other value is returned unchanged.
 ///
 /// # Memory
 /// None.

@@ -1,6 +1,7 @@
 //! Laws of order, equality and hash.
 
-ghost use Rattle.std.specs.Prelude.{◌≡◌, ◌<◌, ◌^◌, ◌&&◌, ℕ, [], ◌∷◌, Box, String, string_bytes, true, false};
+ghost use Rattle.std.specs.Prelude.{◌≡◌, ◌<◌, ◌^◌, ◌&&◌, ℕ, [], ◌∷◌, Box, String, string_bytes};
+ghost use Rattle.std.specs.Prelude.{true, false};
 ghost use Rattle.std.specs.Cmp.Lexicographic.{pointwise};
 ghost use Rattle.std.specs.Global.{Global};
 ghost use Rattle.std.specs.Ordering.{is_eq, nat_cmp};
@@ -60,7 +61,8 @@ pub fn hashes_tell_keys_apart()
     ensures ulongs { (m n : ℕ) → m < 2 ^ 64 → n < 2 ^ 64
         → ⟦<Value as Hash>⟧.hash_input (kind.Ulong m)
         ≡ ⟦<Value as Hash>⟧.hash_input (kind.Ulong n) → m ≡ n }
-    ensures kinds { (a : String Global) (b : Symbol) → ¬ (⟦<Value as Hash>⟧.hash_input (kind.String a)
+    ensures kinds { (a : String Global) (b : Symbol) →
+        ¬ (⟦<Value as Hash>⟧.hash_input (kind.String a)
         ≡ ⟦<Value as Hash>⟧.hash_input (kind.Symbol b)) }
 {}
 

@@ -5,7 +5,8 @@ ghost use Rattle.std.specs.Prelude.{◌≡◌, []};
 ghost use Rattle.std.specs.HashMap.{IsFromIterResult};
 ghost use Rattle.indexmap.specs.IndexMap.{insert_all};
 ghost use Rattle.amqp_data.specs.Pairs.{entries_of};
-ghost use Rattle.amqp_value.specs.Converts.{MapGives, PairsGive, inserted_in_order, inserted_sorted};
+ghost use Rattle.amqp_value.specs.Converts.{MapGives, PairsGive, inserted_in_order};
+ghost use Rattle.amqp_value.specs.Converts.{inserted_sorted};
 
 use super::ConvertFault;
 use super::pairs::convert_pairs;
@@ -155,7 +156,8 @@ fn convert_hashed<K, V>(pairs: Vec<(Value, Value)>) -> Result<HashMap<K, V>, Con
 where
     K: TryFrom<Value, Error = Value> + Hash + Eq + Drop,
     V: TryFrom<Value, Error = Value> + Drop,
-    ensures { PairsGive K.try_from_gives V.try_from_gives (λ done map. IsFromIterResult K.eq done map)
+    ensures { PairsGive K.try_from_gives V.try_from_gives
+        (λ done map. IsFromIterResult K.eq done map)
         pairs.items result }
 {
     convert_pairs(pairs)

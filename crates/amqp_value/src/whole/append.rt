@@ -194,7 +194,8 @@ fn put_text(short: u8, long: u8, bytes: &[u8], out: &mut Vec<u8>) -> bool
 #[inline(always)]
 pub(crate) fn put_binary(bytes: &[u8], out: &mut Vec<u8>) -> bool
     ensures fits { result ≡ true → length bytes.now ≤ 4294967291 }
-    ensures put { result ≡ true → out.new.items ≡ out.old.items ++ scalar_form (tree.binary bytes.now) }
+    ensures put { result ≡ true → out.new.items
+        ≡ out.old.items ++ scalar_form (tree.binary bytes.now) }
     ensures kept { Grows out.old out.new }
 {
     put_text(
@@ -209,7 +210,8 @@ pub(crate) fn put_binary(bytes: &[u8], out: &mut Vec<u8>) -> bool
 #[inline(always)]
 pub(crate) fn put_string(bytes: &[u8], out: &mut Vec<u8>) -> bool
     ensures fits { result ≡ true → length bytes.now ≤ 4294967291 }
-    ensures put { result ≡ true → out.new.items ≡ out.old.items ++ scalar_form (tree.string bytes.now) }
+    ensures put { result ≡ true → out.new.items
+        ≡ out.old.items ++ scalar_form (tree.string bytes.now) }
     ensures kept { Grows out.old out.new }
 {
     put_text(
@@ -224,7 +226,8 @@ pub(crate) fn put_string(bytes: &[u8], out: &mut Vec<u8>) -> bool
 #[inline(always)]
 pub(crate) fn put_symbol(bytes: &[u8], out: &mut Vec<u8>) -> bool
     ensures fits { result ≡ true → length bytes.now ≤ 4294967291 }
-    ensures put { result ≡ true → out.new.items ≡ out.old.items ++ scalar_form (tree.symbol bytes.now) }
+    ensures put { result ≡ true → out.new.items
+        ≡ out.old.items ++ scalar_form (tree.symbol bytes.now) }
     ensures kept { Grows out.old out.new }
 {
     put_text(

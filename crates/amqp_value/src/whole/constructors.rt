@@ -22,7 +22,8 @@ pub(crate) fn constructor_of(value: &Value) -> u8
 /// common numbers have loops of their own, in which one comparison of the variant is left.
 #[inline(always)]
 pub(crate) fn all_have(items: &[Value], code: u8) -> bool
-    ensures each { result ≡ true → 0 < code → each_constructor (Some code) (all_of items.now) ≡ true }
+    ensures each { result ≡ true → 0 < code →
+        each_constructor (Some code) (all_of items.now) ≡ true }
     ensures ranged { result ≡ true → HaveRanges (all_of items.now) }
 {
     match code {
@@ -38,7 +39,8 @@ pub(crate) fn all_have(items: &[Value], code: u8) -> bool
 /// Returns whether each element has this constructor.
 #[inline(always)]
 fn each_has(items: &[Value], code: u8) -> bool
-    ensures each { result ≡ true → 0 < code → each_constructor (Some code) (all_of items.now) ≡ true }
+    ensures each { result ≡ true → 0 < code →
+        each_constructor (Some code) (all_of items.now) ≡ true }
     ensures ranged { result ≡ true → HaveRanges (all_of items.now) }
 {
     for item in items {

@@ -5,7 +5,9 @@
 ghost use Rattle.amqp_ser.specs.Tree as tree;
 ghost use Rattle.amqp_ser.specs.Carried.{descriptor_content};
 ghost use Rattle.amqp_value.specs.TreeOf.{tree_of, all_of, pairs_trees};
-ghost use Rattle.amqp_value.specs.Measured.{Measured, MeasuredPayload, MeasuredEach, MeasuredPayloads, MeasuredContent, MeasuredPairs, IsLength};
+ghost use Rattle.amqp_value.specs.Measured.{Measured, MeasuredPayload, MeasuredEach};
+ghost use Rattle.amqp_value.specs.Measured.{MeasuredPayloads, MeasuredContent, MeasuredPairs};
+ghost use Rattle.amqp_value.specs.Measured.{IsLength};
 
 use crate::Value;
 use crate::whole::bodies::Bodies;

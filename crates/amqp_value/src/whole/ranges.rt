@@ -9,9 +9,9 @@ ghost use Rattle.amqp_value.specs.TreeOf.{tree_of};
 
 use crate::Value;
 
-/// Reads a scalar. A compound is not read. This is not `inline(always)`: the compiler finds that the
-/// function has no effect and removes its calls, and a `match` that is copied into the callers would
-/// change their code.
+/// Reads a scalar. A compound is not read. This is not `inline(always)`: the compiler finds that
+/// the function has no effect and removes its calls, and a `match` that is copied into the callers
+/// would change their code.
 pub(crate) fn read_scalar(value: &Value)
     ensures { HasRange (tree_of value.now) }
 {

@@ -10,7 +10,8 @@ ghost use Rattle.amqp_ser.specs.Tree as tree;
 ghost use Rattle.amqp_ser.specs.Carried.{descriptor_content};
 ghost use Rattle.amqp_value.specs.declared.value.Value.{Value};
 ghost use Rattle.amqp_value.specs.TreeOf.{tree_of, all_of, pairs_trees};
-ghost use Rattle.amqp_value.specs.Wrote.{Grows, Wrote, WrotePayload, WroteEach, WrotePairs, WroteContent, WrotePayloads};
+ghost use Rattle.amqp_value.specs.Wrote.{Grows, Wrote, WrotePayload, WroteEach, WrotePairs};
+ghost use Rattle.amqp_value.specs.Wrote.{WroteContent, WrotePayloads};
 
 use crate::Value;
 use crate::whole::append::{
@@ -88,7 +89,8 @@ fn write_items(items: &[Value], hints: &[Hint], taken: &mut usize, out: &mut Vec
 #[inline(never)]
 #[cycle(write)]
 fn write_map(pairs: &[(Value, Value)], hints: &[Hint], taken: &mut usize, out: &mut Vec<u8>) -> bool
-    ensures wrote { result ≡ true → Wrote (map (pairs_trees pairs.now)) out.old.items out.new.items }
+    ensures wrote { result ≡ true → Wrote
+        (map (pairs_trees pairs.now)) out.old.items out.new.items }
     ensures kept { Grows out.old out.new }
 {
     let len = next(hints, taken);
@@ -224,7 +226,8 @@ fn write_payloads(
     taken: &mut usize,
     out: &mut Vec<u8>,
 ) -> bool
-    ensures wrote { result ≡ true → 0 < code → WrotePayloads code (all_of items.now) out.old.items out.new.items }
+    ensures wrote { result ≡ true → 0 < code →
+        WrotePayloads code (all_of items.now) out.old.items out.new.items }
     ensures kept { Grows out.old out.new }
 {
     for item in items {
@@ -238,8 +241,8 @@ fn write_payloads(
     true
 }
 
-/// Appends the payload of a value in an array, after the constructor. The numbers of `write_elements`
-/// are not among them.
+/// Appends the payload of a value in an array, after the constructor. The numbers of
+/// `write_elements` are not among them.
 #[inline(always)]
 #[cycle(write)]
 fn write_payload(value: &Value, hints: &[Hint], taken: &mut usize, out: &mut Vec<u8>) -> bool
@@ -263,7 +266,8 @@ fn write_payload(value: &Value, hints: &[Hint], taken: &mut usize, out: &mut Vec
 #[inline(never)]
 #[cycle(write)]
 fn write_wide_list(items: &[Value], hints: &[Hint], taken: &mut usize, out: &mut Vec<u8>) -> bool
-    ensures wrote { result ≡ true → WrotePayload (list (all_of items.now)) out.old.items out.new.items }
+    ensures wrote { result ≡ true → WrotePayload
+        (list (all_of items.now)) out.old.items out.new.items }
     ensures kept { Grows out.old out.new }
 {
     let len = next(hints, taken);
@@ -286,7 +290,8 @@ fn write_wide_map(
     taken: &mut usize,
     out: &mut Vec<u8>,
 ) -> bool
-    ensures wrote { result ≡ true → WrotePayload (map (pairs_trees pairs.now)) out.old.items out.new.items }
+    ensures wrote { result ≡ true → WrotePayload
+        (map (pairs_trees pairs.now)) out.old.items out.new.items }
     ensures kept { Grows out.old out.new }
 {
     let len = next(hints, taken);
@@ -304,7 +309,8 @@ fn write_wide_map(
 #[inline(never)]
 #[cycle(write)]
 fn write_wide_array(items: &[Value], hints: &[Hint], taken: &mut usize, out: &mut Vec<u8>) -> bool
-    ensures wrote { result ≡ true → WrotePayload (array (all_of items.now)) out.old.items out.new.items }
+    ensures wrote { result ≡ true → WrotePayload
+        (array (all_of items.now)) out.old.items out.new.items }
     ensures kept { Grows out.old out.new }
 {
     let len = next(hints, taken);
