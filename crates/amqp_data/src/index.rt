@@ -39,16 +39,44 @@ pub(crate) fn position_of<K: Eq, V>(entries: &[(K, V)], key: &K) -> Option<usize
     None
 }
 
+/// How many keys of buckets may be compared.
+pub(crate) trait Comparisons {
+    /// Takes one off. Returns false if none is left.
+    fn take(&mut self) -> bool;
+}
+
+impl Comparisons for usize {
+    #[inline(always)]
+    fn take(&mut self) -> bool {
+        if *self == 0 {
+            return false;
+        }
+        *self -= 1;
+        true
+    }
+}
+
+// No limit, which costs no instruction.
+#[derive(Drop)]
+struct Unlimited;
+
+impl Comparisons for Unlimited {
+    #[inline(always)]
+    fn take(&mut self) -> bool {
+        true
+    }
+}
+
 /// Returns the position of the key, which is in the bucket if it is present. Takes one off `left`
 /// for each comparison, and returns `None` if none is left.
 #[inline(always)]
-pub(crate) fn find_within<K: Hash + Eq, V>(
+pub(crate) fn find_within<K: Hash + Eq, V, C: Comparisons>(
     entries: &[(K, V)],
     heads: &[u32],
     earlier: &[u32],
     bucket: usize,
     key: &K,
-    left: &mut usize,
+    left: &mut C,
 ) -> Option<Option<usize>>
     requires indexed { IsIndexed K.eq K.hash_input heads.now earlier.now entries.now }
     requires within { bucket < length heads.now }
@@ -58,13 +86,12 @@ pub(crate) fn find_within<K: Hash + Eq, V>(
     let mut number = heads[bucket] as usize;
     while number > 0 {
         let at = number - 1;
-        if *left == 0 {
+        if !left.take() {
             return None;
         }
         if *key == entries[at].0 {
             return Some(Some(at));
         }
-        *left -= 1;
         number = earlier[at] as usize;
     }
     Some(None)
@@ -84,8 +111,7 @@ fn find_in_bucket<K: Hash + Eq, V>(
     requires bucket { bucket ≡ chains.bucket_of (length heads.now) (K.hash_input key.now) }
     ensures { result ≡ position (λ e. K.eq key.now e.0) entries.now }
 {
-    let mut left = usize::MAX;
-    match find_within(entries, heads, earlier, bucket, key, &mut left) {
+    match find_within(entries, heads, earlier, bucket, key, &mut Unlimited) {
         Some(found) => found,
         None => position_of(entries, key),
     }
