@@ -33,7 +33,8 @@ pub struct EncodedEntries<'a> {
 }
 
 impl<'a> Encoded<'a> {
-    /// Returns the number of levels inside the values inside, or `None` if there may be none.
+    /// Returns the number of levels that may be inside each part, or `None` if there may be no
+    /// part.
     #[inline(always)]
     pub(crate) fn inside(&self) -> Option<u16>
         ensures { IfSome result (λ d. self.now.depth ≡ suc d) }

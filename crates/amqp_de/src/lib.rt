@@ -62,7 +62,7 @@ pub use readable::Readable;
 pub use scalar::Scalar;
 pub use seed::{After, Describes, Named, Of, Record, Seed, read};
 pub use shape::{FullListOf, Nameless, Shape, read_shaped};
-pub use slice::{from_slice, from_value, from_value_located, read_bytes};
+pub use slice::{MAX_INNER_LEVELS, from_slice, from_value, from_value_located, read_bytes};
 pub use source::Source;
 pub use source_kind::SourceKind;
 pub use variants::{DataVariant, UnitVariant, Variants};

@@ -1,4 +1,4 @@
-//! Types whose laws of reading are one member.
+//! Types that state in one member how they are read.
 
 ghost use Rattle.amqp_de.specs.Laws.{Laws};
 ghost use Rattle.amqp_de.specs.Results.{Takes, Brings};
@@ -11,8 +11,8 @@ use std::alloc::Global;
 /// A type whose laws of reading are one member. Each such type implements [`Deserialize`].
 ///
 /// # Example
-/// An enum implements it, whose variants the descriptor selects; a struct with a descriptor
-/// implements `Composite`.
+/// An enum implements it, whose variants the descriptor selects, and a struct that is described by
+/// a code alone; a struct that is described by a code or a name implements `Composite`.
 pub trait Readable: Sized + Drop {
     /// How a value is read.
     ghost laws: { Laws Self };

@@ -6,13 +6,13 @@ use std::alloc::{AllocError, Global};
 use std::mem::size_of_val;
 
 /// The maximum number of values for which room is reserved.
-pub(crate) const MOST_RESERVED: usize = 256;
+pub(crate) const MAX_RESERVED: usize = 256;
 
 /// The maximum number of values of this size for which room is reserved.
 #[inline(always)]
-pub(crate) fn most_reserved(size: usize) -> usize {
+pub(crate) fn max_reserved(size: usize) -> usize {
     match size {
-        0..=16 => MOST_RESERVED,
+        0..=16 => MAX_RESERVED,
         17..=32 => 128,
         33..=64 => 64,
         65..=128 => 32,
@@ -23,10 +23,10 @@ pub(crate) fn most_reserved(size: usize) -> usize {
 }
 
 /// The maximum number of entries for which room is reserved.
-pub(crate) const FEW_RESERVED: usize = 64;
+pub(crate) const MAX_RESERVED_ENTRIES: usize = 64;
 
 /// Returns a vector of the first of `room` values, with memory for all of them, but for no more
-/// than `most_reserved`.
+/// than `max_reserved`.
 #[inline(always)]
 pub(crate) fn first_item<T: Drop>(
     alloc: Global,
@@ -36,7 +36,7 @@ pub(crate) fn first_item<T: Drop>(
     ensures { IfOk result (λ v. v.items ≡ first ∷ []) }
 {
     let mut items = Vec::new(alloc);
-    let most = most_reserved(size_of_val(&first));
+    let most = max_reserved(size_of_val(&first));
     items.reserve_exact(room.min(most))?;
     match items.push(first) {
         Ok(()) => Ok(items),
@@ -45,13 +45,13 @@ pub(crate) fn first_item<T: Drop>(
 }
 
 /// Appends a value. Before the first one, reserves memory for `room` values, but for no more than
-/// `most_reserved`.
+/// `max_reserved`.
 #[inline(always)]
 pub(crate) fn push_item<T: Drop>(items: &mut Vec<T>, item: T, room: usize) -> Result<(), AllocError>
     ensures { OnOk result (items.new.items ≡ items.old.items ++ item ∷ []) }
 {
     if items.is_empty() {
-        let most = most_reserved(size_of_val(&item));
+        let most = max_reserved(size_of_val(&item));
         items.reserve_exact(room.min(most))?;
     }
     match items.push(item) {

@@ -21,8 +21,8 @@ use amqp_decode::decode_value;
 use amqp_value::Value;
 use std::alloc::Global;
 
-/// The maximum number of levels inside the value.
-const DEPTH: u16 = 255;
+/// The maximum number of levels inside a value that `from_slice` reads.
+pub const MAX_INNER_LEVELS: u16 = 255;
 
 /// Reads a `T` from the value.
 ///
@@ -96,13 +96,13 @@ pub fn from_slice<T: Deserialize>(alloc: Global, bytes: &[u8]) -> Result<T, Erro
         IfErr result (DecodeFails 256 bytes.now) }
     ensures kind { IfErr result (λ e. (t : Tree) → Encodes 256 bytes.now t → IsOfReading e) }
 {
-    match read_bytes::<T>(alloc, bytes, DEPTH) {
+    match read_bytes::<T>(alloc, bytes, MAX_INNER_LEVELS) {
         Some(read) => Ok(read),
         None => read_by_value::<T>(alloc, bytes),
     }
 }
 
-/// Reads a `T` from exactly one encoded value, which has no array elements without bytes.
+/// Reads a `T` from exactly one encoded value. Fails if it has array elements without bytes.
 #[inline(always)]
 pub fn read_bytes<T: Deserialize>(alloc: Global, bytes: &[u8], depth: u16) -> Option<T>
     ensures read { IfSome result (λ x. (t : Tree) × (parse (suc depth) bytes.now ≡ Some (t, []))

@@ -95,7 +95,7 @@ pub fn read_fixed(code: u8, bytes: &[u8]) -> Option<(Value, &[u8])>
     }
 }
 
-// Like `read_fixed`, for the scalars of two and of four bytes.
+// Like `read_fixed`, for the scalars of two, four and eight bytes.
 #[inline(always)]
 fn read_wide(code: u8, bytes: &[u8]) -> Option<(Value, &[u8])>
     ensures found { IfSome result (λ r. (f : ValueReader) (h : ContentReader) →

@@ -27,9 +27,10 @@ pub struct Place {
 /// An error of decoding, with its place.
 #[derive(Debug, PartialEq, Eq, Drop)]
 pub struct Located {
-    /// The error that `decode_value` returns.
+    /// The error that `decode_value` or `decode_value_limited` returns.
     pub error: Error,
-    /// Where the bytes have their first fault. `None` if an allocation failed.
+    /// Where the bytes have their first fault. `None` if an allocation failed, or if a limit is
+    /// exceeded.
     pub place: Option<Place>,
 }
 

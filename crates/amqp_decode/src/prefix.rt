@@ -2,9 +2,8 @@
 //! bytes.
 //!
 //! Each function takes a format code that has been read and the bytes after it, and returns what it
-//! read with the bytes that are left. It accepts every form of a value, and fails with `GaveUp`
-//! otherwise. A caller that gives up calls `decode_value`, which returns an error that has a
-//! meaning.
+//! read with the bytes that are left, or fails with `GaveUp`. A caller then calls `decode_value`,
+//! which reads every form of a value, or returns an error with its cause.
 
 mod bytes;
 mod compounds;

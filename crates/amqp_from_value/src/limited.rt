@@ -101,10 +101,10 @@ pub(crate) fn limits_or_default(limits: Option<Limits>, bytes: &[u8]) -> Limits
 /// bytes is read that would exceed it. Returns the errors of `from_slice` otherwise.
 ///
 /// # Memory
-/// Allocates from `alloc` as `from_slice` does. Bytes in which an array of elements without bytes
-/// can begin, and any with a limit of entries or of fewer than 256 levels, are decoded to an
-/// untyped value, in which entries are counted. Bytes with more levels than the limit are decoded a
-/// second time, with 256 levels, to tell whether they are an encoded value.
+/// Allocates from `alloc` as `from_slice` does. With a limit of entries, or if reading in one pass
+/// fails, the bytes are decoded to an untyped value, in which entries are counted. Bytes with more
+/// levels than the limit are decoded a second time, with 256 levels, to tell whether they are an
+/// encoded value.
 ///
 /// # Example
 /// `e0020340`, an array of three nulls, has a length of 4 bytes, 3 elements without bytes and 2
@@ -136,8 +136,8 @@ pub fn from_slice_limited<T: Deserialize>(
     }
 }
 
-/// Reads a `T` in one pass, which has no array elements without bytes, without a limit of entries.
-/// Returns `None` if that fails.
+/// Reads a `T` in one pass. Returns `None` if that fails, if there is a limit of entries, or if the
+/// bytes have array elements without bytes.
 pub(crate) fn read_in_one_pass<T: Deserialize>(
     alloc: Global,
     bytes: &[u8],

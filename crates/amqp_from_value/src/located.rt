@@ -9,19 +9,17 @@ ghost use Rattle.amqp_from_value.specs.LocatedErrors.{IsLocatedIn, error_in};
 ghost use Rattle.amqp_de.specs.FromBytes.{ReadsEncoded};
 
 use amqp_data::Error;
-use amqp_de::{Deserialize, Fault, from_value_located, read_bytes};
+use amqp_de::{Deserialize, Fault, MAX_INNER_LEVELS, from_value_located, read_bytes};
 use amqp_decode::{Located, decode_value_located};
 use std::alloc::Global;
 use std::fmt::{Formatter, Write};
 use std::{error, fmt};
 
-/// The maximum number of levels inside the value.
-const MOST_LEVELS: u16 = 255;
-
 /// An error of reading from bytes, with its place.
 #[derive(Debug, PartialEq, Eq, Drop)]
 pub enum SliceError {
-    /// The bytes encode no value: where they have their first fault.
+    /// The bytes encode no value: where they have their first fault. Or an allocation failed, or a
+    /// limit is exceeded.
     Bytes(Located),
     /// The bytes encode a value of which the type cannot be read: which field.
     Value(Fault),
@@ -86,7 +84,7 @@ pub fn from_slice_located<T: Deserialize>(alloc: Global, bytes: &[u8]) -> Result
         MatchResult result (λ y. T.same y x) (λ e. error_in e ≡ OutOfMemory) }
     ensures place { IfErr result (IsLocatedIn bytes.now) }
 {
-    match read_bytes::<T>(alloc, bytes, MOST_LEVELS) {
+    match read_bytes::<T>(alloc, bytes, MAX_INNER_LEVELS) {
         Some(read) => Ok(read),
         None => read_by_value_located::<T>(alloc, bytes),
     }

@@ -24,7 +24,8 @@ pub enum FrameError {
     NoPerformative,
     /// The performative cannot be read: where its bytes have a fault, or which field.
     Performative(SliceError),
-    /// A performative cannot be written, an allocation failed, or a read failed.
+    /// A performative cannot be written, an allocation failed outside of its reading, or a read
+    /// failed.
     Value(Error),
 }
 

@@ -1,6 +1,6 @@
 //! Transport frames, and the protocol headers before them (AMQP 1.0 part 2, sections 2.2 and 2.3).
 //!
-//! A frame is a header of eight bytes, an extended header, which is skipped, and a body: an encoded
+//! A frame is a header of eight bytes, an extended header, and a body: an encoded
 //! performative and a payload. A frame is read from a slice without copying, by [`frame_of`], or
 //! taken off a reader, by [`read_frame`]. This crate has no state of a connection, and reads and
 //! writes performatives of any type.

@@ -86,8 +86,8 @@ impl<'a> Frame<'a> {
     ///
     /// # Errors
     /// Returns `NoPerformative` if the body does not begin with an encoded value, as in an empty
-    /// frame, and the errors of `from_slice_limited_located` as `Performative`. A performative with
-    /// more array elements without bytes than it has bytes is `TooLong`.
+    /// frame, and the errors of `from_slice_limited_located` as `Performative`: `Error::TooLong` for
+    /// one with more array elements without bytes than it has bytes.
     ///
     /// # Memory
     /// Allocates the performative from `alloc`. The payload is not copied.
@@ -105,7 +105,7 @@ impl<'a> Frame<'a> {
     /// `Limits::for_length` of its bytes.
     ///
     /// # Errors
-    /// Returns the errors of `performative`, and `TooLong` for a performative that exceeds a limit.
+    /// Returns the errors of `performative`, with `Error::TooLong` if a limit is exceeded.
     ///
     /// # Memory
     /// Allocates the performative from `alloc`. The payload is not copied.

@@ -23,7 +23,7 @@ pub fn map_of(
     Ok(OrderedMap::from_distinct(entries))
 }
 
-// Like the function above, for entries whose keys were distinct before they were converted, so that
+// Like `map_of`, for entries whose keys were distinct before they were converted, so that
 // a repeated key is rare. A small number of long keys are compared in pairs.
 pub fn converted_map_of(
     alloc: Global,

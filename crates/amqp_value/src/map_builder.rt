@@ -73,9 +73,8 @@ impl MapBuilder {
     /// None if each key is greater than the one before it, or if there are at most 8 entries, all
     /// keys are short, and none repeats. More short keys take 12 bytes each. If a short key
     /// repeats, a block for the entries from the first repeated key on. If a key is long, a B-tree
-    /// of the keys, a position for each entry, and a vector of the entries. If there are more than
-    /// 16 entries and many keys have hashes in the same bucket, a B-tree of 64-bit hashes, a vector
-    /// for each entry, and a vector of the entries.
+    /// of the keys, a position for each entry, and a vector of the entries; likewise if there are
+    /// more than 16 entries and many keys have hashes in the same bucket.
     pub fn into_value(self, alloc: Global) -> Result<Value, Error>
         ensures { MatchResult result
             (λ v. tree_of v ≡ map (collected_pairs self))

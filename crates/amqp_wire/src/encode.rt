@@ -22,8 +22,8 @@ use std::alloc::Global;
 /// value has no tree.
 ///
 /// # Memory
-/// Allocates from `alloc` once for the bytes, and for a table of 8 bytes for each compound. A
-/// scalar needs no table.
+/// Allocates from `alloc` once for the bytes, and for a table of 8 bytes for each compound after
+/// the first.
 ///
 /// # Example
 /// The list of the strings `a` and `bc` is `c00802a10161a1026263`.

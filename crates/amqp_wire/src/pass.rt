@@ -18,7 +18,7 @@ use amqp_frame::is_encoded_value;
 use amqp_ser::Marker;
 use amqp_size::{ScalarEncoding, ScalarMarker};
 
-/// The pass gave up on a value. A serializer then finds the error.
+/// The pass gave up on a value. `serialized_size` then finds the error.
 #[derive(Clone, Copy, Debug)]
 pub struct GaveUp;
 
@@ -35,7 +35,7 @@ pub struct Pass<K> {
     pub(crate) tries_parts: bool,
 }
 
-/// Returns an error if nothing was put.
+/// Returns an error if the sink refused the bytes.
 #[inline(always)]
 pub(crate) fn done(put: bool) -> Result<(), GaveUp>
     ensures { MatchResult result (λ _. put ≡ true) (λ _. Unit {0}) }

@@ -1,4 +1,4 @@
-//! Encodes a value by two passes of one machine, which may give up.
+//! Encodes a value by two passes of one serializer, which may give up.
 
 ghost use Rattle.std.specs.Prelude.{◌≡◌, [], Err, true, IfSome};
 ghost use Rattle.amqp_ser.specs.Extends.{Extends};
@@ -25,14 +25,14 @@ pub fn error_of<T: Serialize>(value: &T) -> Error
     }
 }
 
-/// Returns the length of the encoding, unless the pass gave up, and the hints with those of the
-/// value after them. No clause says that the length and the hints are those of the value.
+/// Returns the length of the encoding, unless the pass gave up, and the hints, those of
+/// the value last. No clause says that the length and the hints are those of the value.
 ///
 /// The serializer is created here, so that the compiler knows its position in a program that
 /// measures values of several types.
 ///
 /// # Memory
-/// 8 bytes for each compound, in `hints`.
+/// 8 bytes for each compound after the first, in `hints`.
 #[tactic(auto, using(crate::proofs::Rooted::root_ranged))]
 #[inline]
 pub fn measure<T: Serialize>(hints: Hints, value: &T) -> (Option<usize>, Hints)

@@ -12,7 +12,7 @@ pub enum Position {
     Root,
     /// A part of a list, a map or a variant, or a described value.
     Inside,
-    /// Before a described value.
+    /// The descriptor of a described value.
     Descriptor,
     /// The first element of an array.
     First,

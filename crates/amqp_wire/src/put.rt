@@ -30,7 +30,7 @@ fn put_form<K: Sink>(sink: &mut K, form: ScalarEncoding) -> bool
     }
 }
 
-/// Puts a number.
+/// Puts a number without its format code.
 #[inline(always)]
 fn put_payload<K: Sink>(sink: &mut K, form: ScalarEncoding) -> bool
     ensures grown { K.extends sink.old sink.new }

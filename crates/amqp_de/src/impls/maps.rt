@@ -14,7 +14,7 @@ ghost use Rattle.amqp_de.specs.Results.{IsMemory, ReadsAndRestores};
 
 use crate::deserialize::Deserialize;
 use crate::fault::Fault;
-use crate::room::FEW_RESERVED;
+use crate::room::MAX_RESERVED_ENTRIES;
 use crate::source::Source;
 use amqp_data::{OrderedMap, keys_differ, once_each_unordered};
 use amqp_value::Inserts;
@@ -81,7 +81,7 @@ fn read_entries<K: Deserialize, V: Deserialize, S: Source>(
 {
     let mut entries = entries;
     let room = S::entry_room(&entries);
-    let mut items = match Vec::with_capacity(alloc, room.min(FEW_RESERVED)) {
+    let mut items = match Vec::with_capacity(alloc, room.min(MAX_RESERVED_ENTRIES)) {
         Ok(items) => items,
         Err(_) => return Err(Fault::memory()),
     };

@@ -5,7 +5,8 @@ use std::alloc::{AllocError, AllocFailed};
 /// Nothing was read: the bytes do not encode a value of the type, an allocation failed, or this way
 /// of reading does not support the type.
 ///
-/// It has no cause, since the bytes are then read by way of an untyped value, which returns one.
+/// It has no cause, since the bytes are then read by way of an untyped value, which succeeds or
+/// returns one.
 #[derive(Debug, PartialEq, Eq, Clone, Copy)]
 pub struct GaveUp;
 
