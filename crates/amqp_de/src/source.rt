@@ -199,7 +199,8 @@ pub trait Source: Sized + Drop {
         ensures ok { IfOk result (λ _. (ts : List Tree) × holds elements ts) }
         ensures err { IfErr result (λ e. are_whole elements → IsMemory e) };
 
-    /// Adds the name of the field, the last of this number of elements, if places are kept.
+    /// Adds the name of the field and its index, one less than this number of elements, if places
+    /// are kept.
     #[inline(always)]
     fn placed(fault: Fault, _name: &'static str, _count_read: Option<usize>) -> Fault
         ensures { kind_of result ≡ kind_of fault }
@@ -207,7 +208,8 @@ pub trait Source: Sized + Drop {
         fault
     }
 
-    /// The error for a missing field, the last of this number of elements, if places are kept.
+    /// The error for a missing field, whose index is one less than this number of elements, with its
+    /// place if places are kept.
     #[inline(always)]
     fn missing(_name: &'static str, _count_read: Option<usize>) -> Fault
         ensures { ¬ (IsMemory result) }

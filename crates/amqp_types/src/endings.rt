@@ -1,4 +1,4 @@
-//! The frames that detach a link, end a session and close a connection.
+//! The performatives that detach a link, end a session and close a connection.
 
 mod derived;
 
@@ -11,7 +11,7 @@ use amqp_messaging::AmqpError;
 // amqp: encoding = "list", code = 0x16, name = "amqp:detach:list", rename_all = "kebab-case", new
 #[derive(Debug, Clone, PartialEq, Drop)]
 pub struct Detach {
-    /// The link.
+    /// The handle of the link.
     pub handle: u32,
     /// Whether the link is closed for good.
     // amqp: default = false

@@ -20,7 +20,7 @@ pub struct Flow {
     pub next_outgoing_id: u32,
     /// How many transfers the sender can send.
     pub outgoing_window: u32,
-    /// The link. Without it, the frame is about the session alone.
+    /// The handle of the link. Without it, the frame is about the session alone.
     pub handle: Option<u32>,
     /// The delivery count of the link.
     pub delivery_count: Option<u32>,

@@ -1,4 +1,4 @@
-//! The frames that carry a message and tell the state of deliveries.
+//! The performatives that carry a message and tell the state of deliveries.
 
 mod derived;
 
@@ -13,7 +13,7 @@ use serde_amqp::primitives::ByteBuf;
 // amqp: encoding = "list", code = 0x14, name = "amqp:transfer:list", rename_all = "kebab-case", new
 #[derive(Debug, Clone, PartialEq, Drop)]
 pub struct Transfer {
-    /// The link.
+    /// The handle of the link.
     pub handle: u32,
     /// The number of the delivery, in its first frame.
     pub delivery_id: Option<u32>,
