@@ -13,7 +13,7 @@ use Rattle.amqp_decode.specs.Codes.{is_primitive, shape_of_code}
 use Rattle.amqp_decode.specs.Scalars.{scalar_in}
 use Rattle.amqp_decode.specs.Parsed.{gather, parse, parse_content}
 use Rattle.amqp_decode.specs.Prefix.{item_of}
-use Rattle.amqp_decode.specs.declared.payload_shape.PayloadShape.TheVariants as shape
+use Rattle.amqp_decode.specs.declared.payload.PayloadShape.TheVariants as shape
 use Rattle.amqp_decode.proofs.Gathers.{first_gathered}
 use Rattle.amqp_decode.proofs.Levels.{parse_value}
 use Rattle.amqp_decode.proofs.ScalarForms.{fixed-is}

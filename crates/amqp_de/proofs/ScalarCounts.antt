@@ -9,8 +9,8 @@ use Rattle.amqp_decode.specs.Codes.{primitive_of, shape_of_code}
 use Rattle.amqp_decode.specs.Parsed.{ValueReader, ContentReader, all, content_at, content_in, content_of, counted_in, descriptor_at, value_in_bytes, gather, insert, items_in, parse, parse_array, parse_content, parse_described, parse_list, parse_map, payload_in, with_rest}
 use Rattle.amqp_decode.specs.Scalars.{and_then}
 use Rattle.amqp_decode.specs.WithoutBytes.{Counter, ContentCounter, if_read, in_payload, in_shape, in_content, counted_in_value, elements_without_bytes, content_without_bytes}
-use Rattle.amqp_decode.specs.declared.payload_shape.PayloadShape.{PayloadShape}
-use Rattle.amqp_decode.specs.declared.payload_shape.PayloadShape.TheVariants as shape
+use Rattle.amqp_decode.specs.declared.payload.PayloadShape.{PayloadShape}
+use Rattle.amqp_decode.specs.declared.payload.PayloadShape.TheVariants as shape
 use Rattle.amqp_decode.proofs.Levels.{both, parse_value, some_same}
 
 no_map : (b : Bool) (o : Option Pairs) (x : Scalar) → (if b then and_then o (λ ps. Some (tree.map ps)) else None) ≡ Some (scalar x) → ⊥

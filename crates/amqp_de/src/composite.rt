@@ -6,8 +6,8 @@ ghost use Rattle.amqp_de.specs.Composites.{IsCodeOrName};
 ghost use Rattle.amqp_de.specs.Laws.{Laws, as_composite};
 ghost use Rattle.amqp_de.specs.Results.{Takes, Brings};
 
+use crate::deserialize::Readable;
 use crate::fault::Fault;
-use crate::readable::Readable;
 use crate::source::Source;
 use amqp_data::Descriptor;
 use std::alloc::Global;

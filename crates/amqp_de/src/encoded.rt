@@ -5,9 +5,10 @@ ghost use Rattle.amqp_ser.specs.Tree.{Tree, scalar, null};
 ghost use Rattle.amqp_decode.specs.Parsed.{parse};
 ghost use Rattle.amqp_de.specs.Maps.{AreApart};
 
-use crate::encoded_parts::{Encoded, EncodedElements, EncodedEntries};
+use crate::encoded_parts::{
+    Encoded, EncodedElements, EncodedEntries, first_descriptor, list_scalars, split_name,
+};
 use crate::fault::Fault;
-use crate::parts::{first_descriptor, list_scalars, split_name};
 use crate::scalar::Scalar;
 use crate::source::Source;
 use crate::source_kind::{SourceKind, source_kind_of_code};

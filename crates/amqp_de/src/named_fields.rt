@@ -9,9 +9,8 @@ ghost use Rattle.amqp_de.specs.Laws.{first_name, other_names};
 
 use crate::defaulted::Defaulted;
 use crate::deserialize::Deserialize;
-use crate::fields::{FieldSeeds, Required};
+use crate::fields::{FieldSeeds, Optional, Required};
 use crate::numbered::Numbered;
-use crate::optional_fields::Optional;
 
 /// Fields whose reading is determined by their types and their names.
 pub trait NamedFields: FieldSeeds {

@@ -3,7 +3,7 @@
 
 ghost use Rattle.std.specs.Prelude.{◌≤◌, ◌<◌, ◌^◌, IfSome, length};
 
-use crate::parts::split_name;
+use crate::encoded_parts::split_name;
 use amqp_decode::prefix::split_map;
 use amqp_frame::frame_len;
 

@@ -11,9 +11,9 @@ use Rattle.amqp_decode.specs.Codes.{is_primitive, primitive_of, shape_of_code}
 use Rattle.amqp_decode.specs.Scalars.{and_then, exact, scalar_in, scalar_tree}
 use Rattle.amqp_decode.specs.Encodes.{IsPayload}
 use Rattle.amqp_decode.specs.Parsed.{ValueReader, ContentReader, cut, content_at, sized_at, number_at, counted_in, gather, all, items_in, parse_array, payload_in, content_of, value_in_bytes, descriptor_at, parse_described, parsed_descriptor, tree_descriptor, parse, parse_content}
-use Rattle.amqp_decode.specs.declared.payload_shape.Count.{Count}
-use Rattle.amqp_decode.specs.declared.payload_shape.Count.TheVariants.{Absent, OneByte, FourBytes}
-use Rattle.amqp_decode.specs.declared.payload_shape.PayloadShape.TheVariants as shape
+use Rattle.amqp_decode.specs.declared.payload.Count.{Count}
+use Rattle.amqp_decode.specs.declared.payload.Count.TheVariants.{Absent, OneByte, FourBytes}
+use Rattle.amqp_decode.specs.declared.payload.PayloadShape.TheVariants as shape
 use Rattle.amqp_decode.proofs.CodeLemmas.{primitive-found, primitive-nonzero, primitive-says}
 use Rattle.amqp_decode.proofs.Finds.{payload-found}
 use Rattle.amqp_decode.specs.Prefix.{HasCountOfPayloads, IsArrayOf, IsDescribedBy, item_of}

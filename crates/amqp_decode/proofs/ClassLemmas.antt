@@ -8,7 +8,7 @@ use Rattle.amqp_ser.specs.Tree as tree
 use Rattle.amqp_ser.specs.Tree.{Tree, Scalar, Pairs, trees_of, no_pairs}
 use Rattle.amqp_decode.specs.Scalars.{and_then, single, exact, truth, character, is_scalar_value, text, scalar_from, scalar_in, scalar_tree}
 use Rattle.amqp_decode.specs.Parsed.{ValueReader, ContentReader, content_of, counted_in, gather, insert, all, items_in, parse_list, parse_map, parse_array}
-use Rattle.amqp_decode.specs.declared.payload_shape.Count.TheVariants.{Absent, OneByte, FourBytes}
+use Rattle.amqp_decode.specs.declared.payload.Count.TheVariants.{Absent, OneByte, FourBytes}
 use Rattle.amqp_decode.proofs.Classes.{class_of, class_of_scalar, class_of_code}
 use Rattle.amqp_decode.proofs.Levels.{both}
 

@@ -12,8 +12,8 @@ use Rattle.amqp_decode.specs.Codes.{is_primitive, primitive_of, shape_of_code}
 use Rattle.amqp_decode.specs.Scalars.{and_then}
 use Rattle.amqp_decode.specs.Parsed.{ValueReader, ContentReader, content_at, counted_in, descriptor_at, parse_described, with_rest, payload_in, content_in, content_of, value_in_bytes, parse_list, parse_map, parse_array, parse, parse_content}
 use Rattle.amqp_decode.specs.WithoutBytes.{has_no_payload, Counter, ContentCounter, if_read, sum_of, in_payload, own_items, in_items, in_array, in_shape, in_content, counted_in_value, elements_without_bytes, content_without_bytes, value_around, content_around, Leaves, IsExceeded, IsWithin, Spends}
-use Rattle.amqp_decode.specs.declared.payload_shape.PayloadShape.{PayloadShape}
-use Rattle.amqp_decode.specs.declared.payload_shape.PayloadShape.TheVariants as shape
+use Rattle.amqp_decode.specs.declared.payload.PayloadShape.{PayloadShape}
+use Rattle.amqp_decode.specs.declared.payload.PayloadShape.TheVariants as shape
 use Rattle.amqp_decode.proofs.CodeLemmas.{named, primitive-found, primitive-nonzero}
 use Rattle.amqp_decode.proofs.Steps.{not-zero}
 

@@ -10,7 +10,7 @@ use Rattle.amqp_ser.specs.Tree.{Tree}
 use Rattle.amqp_decode.specs.Codes.{is_primitive, primitive_of, shape_of_code}
 use Rattle.amqp_decode.specs.Parsed.{ValueReader, ContentReader, content_at, descriptor_at, payload_in, parse, parse_content}
 use Rattle.amqp_decode.specs.Faults.{Fault, PayloadFault, fault_of_values, fault_of_payload, fault_of_byte, fault_of_map, fault_of_array, fault_of_shape, fault_of_content, fault_of_descriptor, fault_of_value, fault_in, fault_in_item, fault_around, content_fault, decode_fault, FailsBy}
-use Rattle.amqp_decode.specs.declared.payload_shape.PayloadShape.{PayloadShape}
+use Rattle.amqp_decode.specs.declared.payload.PayloadShape.{PayloadShape}
 use Rattle.amqp_decode.proofs.CodeLemmas.{primitive-found, primitive-nonzero}
 
 pub fails-at : {T : Type 0} (r : Result T Error) (a b : Error) → a ≡ b → FailsBy a r → FailsBy b r

@@ -10,7 +10,7 @@ use Rattle.amqp_ser.specs.Tree as tree
 use Rattle.amqp_ser.specs.Tree.{Descriptor, Tree, Pairs, no_pairs}
 use Rattle.amqp_decode.specs.Encodes.{IsNumber, IsPayload, IsCounted, IsDescriptor, descriptor_scalar, Encodes, EncodesContent, EncodesElements, EncodesItems, EncodesEntries}
 use Rattle.amqp_decode.specs.Parsed.{cut, number_at, sized_at, content_at, counted_in, tree_descriptor, descriptor_at, gather, insert, payload_in, content_of, parse, parse_content}
-use Rattle.amqp_decode.specs.declared.payload_shape.Count.{Count}
+use Rattle.amqp_decode.specs.declared.payload.Count.{Count}
 use Rattle.amqp_decode.proofs.CodeLemmas.{primitive-found, primitive-nonzero}
 
 pub cut-seam : (s x : List ℕ) → cut (length s) (s ++ x) ≡ Some (s, x)

@@ -9,9 +9,9 @@ use Rattle.amqp_decode.specs.Codes.{is_primitive, shape_of_code}
 use Rattle.amqp_decode.specs.Encodes.{IsPayload}
 use Rattle.amqp_decode.specs.Parsed.{ValueReader, ContentReader, content_at, sized_at, number_at, counted_in}
 use Rattle.amqp_decode.specs.Prefix.{HasCountOf, IsListOf}
-use Rattle.amqp_decode.specs.declared.payload_shape.Count.{Count}
-use Rattle.amqp_decode.specs.declared.payload_shape.Count.TheVariants.{Absent, OneByte, FourBytes}
-use Rattle.amqp_decode.specs.declared.payload_shape.PayloadShape.TheVariants as shape
+use Rattle.amqp_decode.specs.declared.payload.Count.{Count}
+use Rattle.amqp_decode.specs.declared.payload.Count.TheVariants.{Absent, OneByte, FourBytes}
+use Rattle.amqp_decode.specs.declared.payload.PayloadShape.TheVariants as shape
 use Rattle.amqp_decode.proofs.CodeLemmas.{primitive-found, primitive-nonzero}
 use Rattle.amqp_decode.proofs.Finds.{payload-found}
 

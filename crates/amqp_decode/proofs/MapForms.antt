@@ -11,9 +11,9 @@ use Rattle.amqp_decode.specs.Codes.{is_primitive, shape_of_code}
 use Rattle.amqp_decode.specs.Parsed.{ValueReader, ContentReader, content_at, sized_at, number_at, counted_in, insert, value_in_bytes}
 use Rattle.amqp_decode.specs.Prefix.{HasCountOf, IsMapOf}
 use Rattle.amqp_decode.specs.WithoutBytes.{counted_in_value, sum_of}
-use Rattle.amqp_decode.specs.declared.payload_shape.Count.{Count}
-use Rattle.amqp_decode.specs.declared.payload_shape.Count.TheVariants.{OneByte, FourBytes}
-use Rattle.amqp_decode.specs.declared.payload_shape.PayloadShape.TheVariants as shape
+use Rattle.amqp_decode.specs.declared.payload.Count.{Count}
+use Rattle.amqp_decode.specs.declared.payload.Count.TheVariants.{OneByte, FourBytes}
+use Rattle.amqp_decode.specs.declared.payload.PayloadShape.TheVariants as shape
 use Rattle.amqp_decode.proofs.CodeLemmas.{primitive-found, primitive-nonzero}
 
 even_test : (n : ℕ) → n ≡ 0 → (n == 0) ≡ true

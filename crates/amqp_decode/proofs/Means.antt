@@ -16,10 +16,10 @@ use Rattle.amqp_decode.specs.Codes.{is_primitive, primitive_of, shape_of_code}
 use Rattle.amqp_decode.specs.Scalars.{and_then, scalar_in, scalar_tree}
 use Rattle.amqp_decode.specs.Encodes.{IsNumber, IsPayload, IsCounted, IsDescriptor, descriptor_scalar, Encodes, EncodesContent, EncodesElements, EncodesItems, EncodesEntries}
 use Rattle.amqp_decode.specs.Parsed.{ValueReader, ContentReader, cut, number_at, sized_at, content_at, counted_in, tree_descriptor, parsed_descriptor, descriptor_at, gather, insert, all, parse_list, parse_map, items_in, parse_array, payload_in, with_rest, content_in, content_of, parse_described, value_in_bytes, parse, parse_content}
-use Rattle.amqp_decode.specs.declared.payload_shape.Count.{Count}
-use Rattle.amqp_decode.specs.declared.payload_shape.Count.TheVariants.{Absent, OneByte, FourBytes}
-use Rattle.amqp_decode.specs.declared.payload_shape.PayloadShape.{PayloadShape}
-use Rattle.amqp_decode.specs.declared.payload_shape.PayloadShape.TheVariants as shape
+use Rattle.amqp_decode.specs.declared.payload.Count.{Count}
+use Rattle.amqp_decode.specs.declared.payload.Count.TheVariants.{Absent, OneByte, FourBytes}
+use Rattle.amqp_decode.specs.declared.payload.PayloadShape.{PayloadShape}
+use Rattle.amqp_decode.specs.declared.payload.PayloadShape.TheVariants as shape
 use Rattle.amqp_decode.proofs.CodeLemmas.{primitive-says}
 
 -- The bytes before the rest encode the result, if there is one.

@@ -19,7 +19,7 @@ use Rattle.amqp_value.specs.Image.{image, images, images_onto, insert_tree}
 use Rattle.amqp_decode.specs.Codes.{is_primitive}
 use Rattle.amqp_decode.specs.Depth.{depth_of, depth_of_each, depth_of_pairs, IsOrdinary, AreOrdinary, HasOrdinaryPairs}
 use Rattle.amqp_decode.specs.Encodes.{IsNumber, IsPayload, IsCounted, Encodes, EncodesContent, EncodesElements, EncodesItems, EncodesEntries}
-use Rattle.amqp_decode.specs.declared.payload_shape.Count.TheVariants.{Absent, OneByte, FourBytes}
+use Rattle.amqp_decode.specs.declared.payload.Count.TheVariants.{Absent, OneByte, FourBytes}
 use Rattle.amqp_value.proofs.CodeLemmas.{same-is}
 use Rattle.amqp_decode.proofs.CodeLemmas.{code-is}
 use Rattle.amqp_decode.proofs.Means.{pick}

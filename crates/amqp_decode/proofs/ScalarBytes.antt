@@ -24,7 +24,7 @@ use Rattle.amqp_ser.specs.Encoding.{descriptor_form}
 use Rattle.amqp_decode.specs.Codes.{is_primitive, shape_of_code}
 use Rattle.amqp_decode.specs.Scalars.{scalar_from, single, exact, character, is_scalar_value, scalar_in}
 use Rattle.amqp_decode.specs.Encodes.{IsNumber, IsPayload, IsDescriptor, Encodes, EncodesContent}
-use Rattle.amqp_decode.specs.declared.payload_shape.PayloadShape.TheVariants as shape
+use Rattle.amqp_decode.specs.declared.payload.PayloadShape.TheVariants as shape
 use Rattle.amqp_decode.proofs.Means.{pick, is_number}
 
 -- The code of a scalar in an array.

@@ -14,8 +14,8 @@ use Rattle.amqp_decode.specs.Encodes.{IsNumber, IsPayload, IsCounted}
 use Rattle.amqp_decode.specs.Parsed.{ValueReader, ContentReader, content_at, counted_in, descriptor_at, gather, insert, all, with_rest, payload_in, parse_list, parse_map, parse_array, content_of, value_in_bytes, parse, parse_content}
 use Rattle.amqp_decode.specs.Places.{Finder, PayloadFinder, PlaceFromEnd, skips, place_of_values, place_of_payload, place_of_array, place_of_descriptor, place_in, place_in_item, place_around, content_place, at_start}
 use Rattle.amqp_decode.specs.WithoutBytes.{has_no_payload}
-use Rattle.amqp_decode.specs.declared.payload_shape.Count.{Count}
-use Rattle.amqp_decode.specs.declared.payload_shape.PayloadShape.TheVariants as shape
+use Rattle.amqp_decode.specs.declared.payload.Count.{Count}
+use Rattle.amqp_decode.specs.declared.payload.PayloadShape.TheVariants as shape
 use Rattle.amqp_decode.proofs.Finds.{cut-seam}
 use Rattle.amqp_decode.proofs.Means.{Says, payload-says, counted-says}
 use Rattle.amqp_decode.proofs.Whole.{nil-from_length}

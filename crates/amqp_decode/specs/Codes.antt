@@ -3,9 +3,9 @@ use Rattle.std.specs.Prelude.{ℕ, Bool, true, false, ◌==◌, if◌then◌else
 use Rattle.amqp_data.specs.FormatCode.{code_of}
 use Rattle.amqp_data.specs.declared.format_code.EncodingCodes.{EncodingCodes}
 use Rattle.amqp_data.specs.declared.format_code.EncodingCodes.TheVariants.{DescribedType, Null, BooleanTrue, BooleanFalse, Uint0, Ulong0, List0, Ubyte, Byte, SmallUint, SmallUlong, SmallInt, SmallLong, Boolean, Ushort, Short, Uint, Int, Float, Char, Decimal32, Ulong, Long, Double, Timestamp, Decimal64, Decimal128, Uuid, Vbin8, Str8, Sym8, Vbin32, Str32, Sym32, List8, Map8, List32, Map32, Array8, Array32}
-use Rattle.amqp_decode.specs.declared.payload_shape.Count.TheVariants.{Absent, OneByte, FourBytes}
-use Rattle.amqp_decode.specs.declared.payload_shape.PayloadShape.{PayloadShape}
-use Rattle.amqp_decode.specs.declared.payload_shape.PayloadShape.TheVariants as shape
+use Rattle.amqp_decode.specs.declared.payload.Count.TheVariants.{Absent, OneByte, FourBytes}
+use Rattle.amqp_decode.specs.declared.payload.PayloadShape.{PayloadShape}
+use Rattle.amqp_decode.specs.declared.payload.PayloadShape.TheVariants as shape
 
 -- The codes of primitive types: all except 00 (section 1.6).
 abbrev pub primitive_codes : List EncodingCodes

@@ -11,9 +11,9 @@ use Rattle.amqp_ser.specs.Tree.{Scalar, Descriptor, Tree, Pairs, trees_of, no_pa
 use Rattle.amqp_value.specs.Image.{insert_tree}
 use Rattle.amqp_decode.specs.Codes.{is_primitive, shape_of_code}
 use Rattle.amqp_decode.specs.Scalars.{scalar_in}
-use Rattle.amqp_decode.specs.declared.payload_shape.Count.{Count}
-use Rattle.amqp_decode.specs.declared.payload_shape.Count.TheVariants.{Absent, OneByte, FourBytes}
-use Rattle.amqp_decode.specs.declared.payload_shape.PayloadShape.TheVariants as shape
+use Rattle.amqp_decode.specs.declared.payload.Count.{Count}
+use Rattle.amqp_decode.specs.declared.payload.Count.TheVariants.{Absent, OneByte, FourBytes}
+use Rattle.amqp_decode.specs.declared.payload.PayloadShape.TheVariants as shape
 
 -- A number in four bytes.
 pub data IsNumber : List ℕ → ℕ → Type 0 where

@@ -13,8 +13,8 @@ use Rattle.amqp_frame.specs.Code.{category}
 use Rattle.amqp_decode.specs.Codes.{primitive_of, shape_of_code}
 use Rattle.amqp_decode.specs.Scalars.{and_then}
 use Rattle.amqp_decode.specs.Parsed.{ValueReader, ContentReader, content_at, counted_in, descriptor_at, payload_in, parse, parse_content}
-use Rattle.amqp_decode.specs.declared.payload_shape.PayloadShape.{PayloadShape}
-use Rattle.amqp_decode.specs.declared.payload_shape.PayloadShape.TheVariants as shape
+use Rattle.amqp_decode.specs.declared.payload.PayloadShape.{PayloadShape}
+use Rattle.amqp_decode.specs.declared.payload.PayloadShape.TheVariants as shape
 
 -- The bytes from the fault on, and the levels.
 abbrev pub PlaceFromEnd : Type 0

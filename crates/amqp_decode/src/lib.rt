@@ -12,7 +12,6 @@ pub mod laws;
 mod limit;
 mod located;
 mod payload;
-mod payload_shape;
 pub mod prefix;
 mod push;
 mod read;

@@ -3,7 +3,7 @@
 ghost use Rattle.std.specs.Prelude.{◌≡◌, IfErr};
 ghost use Rattle.amqp_decode.specs.WithoutBytes.{Spends, own_items};
 
-use crate::payload_shape::has_no_payload;
+use crate::payload::has_no_payload;
 use amqp_data::{EncodingCodes, Error};
 
 /// Takes the `count` elements of an array with this constructor from the limit, if they have no

@@ -5,7 +5,6 @@
 //! read with the bytes that are left, or fails with `GaveUp`. A caller then calls `decode_value`,
 //! which reads every form of a value, or returns an error with its cause.
 
-mod bytes;
 mod compounds;
 mod gave_up;
 mod integers;
@@ -13,8 +12,9 @@ mod scalars;
 mod texts;
 mod values;
 
-pub use bytes::{split_byte, split_bytes};
-pub use compounds::{below, split_array, split_described, split_list, split_map};
+pub use compounds::{
+    below, split_array, split_byte, split_bytes, split_described, split_list, split_map,
+};
 pub use gave_up::GaveUp;
 pub use integers::{
     read_byte, read_int, read_long, read_short, read_ubyte, read_uint, read_ulong, read_ushort,

@@ -18,8 +18,7 @@ ghost use Rattle.amqp_decode.specs.Faults.{fault_of_payload, fault_of_values};
 
 use crate::fixed::read_fixed;
 use crate::limit::spend_items;
-use crate::payload::{read_count, read_payload};
-use crate::payload_shape::{PayloadShape, payload_shape, primitive_code};
+use crate::payload::{PayloadShape, payload_shape, primitive_code, read_count, read_payload};
 use crate::push::push_fixed;
 use crate::reserve::{reserve_element, reserved, reserved_of_a_map};
 use crate::run::read_run;

@@ -12,8 +12,7 @@ ghost use Rattle.amqp_decode.specs.Scalars.{scalar_tree};
 ghost use Rattle.amqp_decode.specs.Parsed.{tree_descriptor, descriptor_at};
 ghost use Rattle.amqp_decode.specs.Faults.{FailsBy, fault_of_descriptor};
 
-use crate::payload::read_payload;
-use crate::payload_shape::primitive_code;
+use crate::payload::{primitive_code, read_payload};
 use amqp_data::{
     ByteBuf, Dec32, Dec64, Dec128, Descriptor, EncodingCodes, Error, F32Bits, F64Bits, Symbol,
     Timestamp, Uuid,

@@ -11,8 +11,7 @@ ghost use Rattle.amqp_decode.specs.Places.{place_of_scalar, place_of_text};
 ghost use Rattle.amqp_decode.specs.PlaceAt.{IsAt};
 ghost use Rattle.amqp_decode.specs.Scalars.{and_then, character, exact, scalar_in, single, truth};
 
-use crate::payload::read_payload;
-use crate::payload_shape::primitive_code;
+use crate::payload::{primitive_code, read_payload};
 use amqp_data::EncodingCodes;
 
 /// Where a fault is.

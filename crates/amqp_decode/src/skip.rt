@@ -10,8 +10,9 @@ ghost use Rattle.amqp_decode.specs.Places.{content_place, skips, place_around, p
 ghost use Rattle.amqp_decode.specs.Places.{place_in_item, place_of_array, place_of_payload};
 ghost use Rattle.amqp_decode.specs.Places.{place_of_values};
 
-use crate::payload::{read_count, read_payload};
-use crate::payload_shape::{PayloadShape, has_no_payload, payload_shape, primitive_code};
+use crate::payload::{
+    PayloadShape, has_no_payload, payload_shape, primitive_code, read_count, read_payload,
+};
 use crate::scalar_check::{PlaceFromEnd, check_scalar, skip_descriptor};
 use amqp_data::EncodingCodes;
 

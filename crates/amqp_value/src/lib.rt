@@ -7,7 +7,6 @@
 
 mod accessors;
 mod build;
-mod distinct;
 mod escape;
 mod format_code;
 mod from;
@@ -15,7 +14,6 @@ mod inserts;
 pub mod laws;
 mod map_builder;
 mod serialize;
-mod short_keys;
 mod show;
 mod try_from;
 mod value;
@@ -24,7 +22,6 @@ mod whole;
 pub use accessors::ValueKind;
 pub use build::{BuildList, BuildMap, IntoValue};
 pub use inserts::Inserts;
-pub use map_builder::MapBuilder;
-pub use short_keys::is_short_key;
+pub use map_builder::{MapBuilder, is_short_key};
 pub use try_from::ConvertFault;
 pub use value::Value;

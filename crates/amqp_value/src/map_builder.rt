@@ -1,14 +1,20 @@
 //! Entries in the order in which they were inserted.
 
-ghost use Rattle.std.specs.Prelude.{◌≡◌, OnOk, IfOk, IfErr, OnErr, MatchResult};
+ghost use Rattle.std.specs.Prelude.{◌≡◌, OnOk, IfOk, IfErr, OnErr, MatchResult, []};
 ghost use Rattle.amqp_ser.specs.Tree.{map, no_pairs};
 ghost use Rattle.amqp_value.specs.Image.{insert_tree};
 ghost use Rattle.amqp_value.specs.TreeOf.{tree_of};
 ghost use Rattle.amqp_value.specs.MapBuilder.{collected_pairs};
+ghost use Rattle.amqp_data.specs.Pairs.{entries_of, insert_pairs};
+ghost use Rattle.amqp_value.specs.Equal.{equal};
+ghost use Rattle.std.specs.List.{list_all};
+ghost use Rattle.amqp_value.specs.ShortKeys.{is_short_key};
 
-use crate::distinct::map_of;
 use crate::value::Value;
-use amqp_data::Error;
+use amqp_data::{
+    Error, MAX_HASHED_BINARY, MAX_HASHED_TEXT, MAX_PAIRED_LONG, OrderedMap, ascends, once_each,
+    once_each_by_order, once_each_by_pairs,
+};
 use std::alloc::{AllocError, AllocFailed, Global};
 
 /// The entries of a map, inserted one after another. A repeated key keeps its position and gets the
@@ -83,4 +89,68 @@ impl MapBuilder {
         let entries = map_of(alloc, self.pairs)?;
         Ok(Value::Map(entries))
     }
+}
+
+// Returns the map of the entries, inserted in order: a repeated key keeps its position and gets the
+// new value. Repeated long keys are found by their order alone.
+pub fn map_of(
+    alloc: Global,
+    pairs: Vec<(Value, Value)>,
+) -> Result<OrderedMap<Value, Value>, AllocError>
+    ensures { IfOk result (λ map. entries_of map ≡ insert_pairs equal pairs.items []) }
+{
+    let entries = distinct(alloc, pairs)?;
+    Ok(OrderedMap::from_distinct(entries))
+}
+
+// Like `map_of`, for entries whose keys were distinct before they were converted, so that
+// a repeated key is rare. A small number of long keys are compared in pairs.
+pub fn converted_map_of(
+    alloc: Global,
+    pairs: Vec<(Value, Value)>,
+) -> Result<OrderedMap<Value, Value>, AllocError>
+    ensures { IfOk result (λ map. entries_of map ≡ insert_pairs equal pairs.items []) }
+{
+    if pairs.len() > MAX_PAIRED_LONG || have_short_keys(&pairs) {
+        return map_of(alloc, pairs);
+    }
+    let entries = once_each_by_pairs(pairs)?;
+    Ok(OrderedMap::from_distinct(entries))
+}
+
+// Returns the entries, inserted in order.
+fn distinct(alloc: Global, pairs: Vec<(Value, Value)>) -> Result<Vec<(Value, Value)>, AllocError>
+    ensures { IfOk result (λ entries. entries.items ≡ insert_pairs equal pairs.items []) }
+{
+    if ascends(&pairs) {
+        Ok(pairs)
+    } else if have_short_keys(&pairs) {
+        once_each(alloc, pairs)
+    } else {
+        once_each_by_order(alloc, pairs)
+    }
+}
+
+/// Returns whether the hash of the key is computed in few steps: whether it is a scalar, and at
+/// most 256 bytes long if it is a text, or 32 if it is a binary.
+///
+/// # Example
+/// True for the string `a`, false for an empty list.
+pub fn is_short_key(key: &Value) -> bool
+    ensures { result ≡ is_short_key key.now }
+{
+    match key {
+        Value::Binary(bytes) => bytes.as_inner().len() <= MAX_HASHED_BINARY,
+        Value::String(text) => text.len() <= MAX_HASHED_TEXT,
+        Value::Symbol(name) => name.as_inner().len() <= MAX_HASHED_TEXT,
+        Value::Described(_) | Value::List(_) | Value::Map(_) | Value::Array(_) => false,
+        _ => true,
+    }
+}
+
+/// Returns whether `is_short_key` is true for each key.
+pub(crate) fn have_short_keys(entries: &[(Value, Value)]) -> bool
+    ensures { result ≡ list_all (λ e. is_short_key e.0) entries.now }
+{
+    entries.iter().all(|entry| is_short_key(&entry.0))
 }

@@ -2,12 +2,20 @@
 
 ghost use Rattle.amqp_ser.specs.SizeAndBytes.{AreBytesOf};
 ghost use Rattle.amqp_wire.specs.ResultBytes.{result_bytes};
+ghost use Rattle.std.specs.Prelude.{◌≡◌, [], Err, true, IfSome};
+ghost use Rattle.amqp_ser.specs.Extends.{Extends};
+ghost use Rattle.amqp_wire.specs.Encoded.{IsWritten, IsInRange};
+ghost use Rattle.amqp_wire.specs.Appended.{AppendsBytesOf};
 
+use crate::appender::Appender;
+use crate::counter::Counter;
 use crate::hints::Hints;
-use crate::passes::{append_value, error_of, measure};
+use crate::pass::Pass;
 use amqp_data::Error;
-use amqp_ser::Serialize;
+use amqp_ser::{Hint, Serialize};
+use amqp_size::serialized_size;
 use std::alloc::Global;
+use std::mem;
 
 /// Returns the encoding of `value`. Unless an allocation fails, it succeeds if and only if the tree
 /// of the value is writable.
@@ -41,4 +49,139 @@ pub fn to_vec<T: Serialize>(alloc: Global, value: &T) -> Result<Vec<u8>, Error>
         return Err(error_of(value));
     }
     Ok(bytes)
+}
+
+/// Returns the error of a value on which a pass gave up: that of `serialized_size`, or
+/// `OutOfMemory` if the value has a size.
+#[inline(never)]
+pub fn error_of<T: Serialize>(value: &T) -> Error
+    ensures { AreBytesOf (T.tree value.now) (Err result) }
+{
+    match serialized_size(value) {
+        Ok(_) => Error::OutOfMemory,
+        Err(error) => error,
+    }
+}
+
+/// Returns the length of the encoding, unless the pass gave up, and the hints, those of
+/// the value last. No clause says that the length and the hints are those of the value.
+///
+/// The serializer is created here, so that the compiler knows its position in a program that
+/// measures values of several types.
+///
+/// # Memory
+/// 8 bytes for each compound after the first, in `hints`.
+#[tactic(auto, using(crate::proofs::Rooted::root_ranged))]
+#[inline]
+pub fn measure<T: Serialize>(hints: Hints, value: &T) -> (Option<usize>, Hints)
+    ensures { IfSome result.0 (λ _. IsInRange (T.tree value.now)) }
+{
+    let mut pass = Pass::new(Counter { len: 0, hints });
+    let answer = value.serialize(&mut pass);
+    let Counter { len, hints } = pass.into_sink();
+    match answer {
+        Ok(()) => {
+            if hints.is_refused() {
+                return (None, hints);
+            }
+            (Some(len), hints)
+        }
+        Err(_) => (None, hints),
+    }
+}
+
+/// Appends the encoding within the capacity, by the next hints, and returns whether that succeeded.
+#[tactic(auto, using(crate::proofs::Rooted::root_written, crate::proofs::Rooted::root_longer))]
+#[inline]
+pub fn append_value<T: Serialize>(hints: Hints, out: Vec<u8>, value: &T) -> (bool, Hints, Vec<u8>)
+    ensures grown { Extends out.items result.2.items }
+    ensures written { result.0 ≡ true → IsWritten (T.tree value.now) out.items result.2.items }
+{
+    let mut pass = Pass::new(Appender::new(hints, out));
+    let answer = value.serialize(&mut pass);
+    let Appender {
+        hints,
+        out,
+        poisoned,
+    } = pass.into_sink();
+    match answer {
+        Ok(()) => {
+            if poisoned {
+                return (false, hints, out);
+            }
+            (true, hints, out)
+        }
+        Err(_) => (false, hints, out),
+    }
+}
+
+/// Appends the encoding of `value` to `out`. `table` is only used for its capacity.
+///
+/// Like [`to_vec`](crate::to_vec), it succeeds if and only if the tree of the value is writable,
+/// unless an allocation fails. After an error `out` has the bytes that it had.
+///
+/// # Encoding
+/// The bytes of [`to_vec`](crate::to_vec).
+///
+/// # Errors
+/// Returns the errors of [`to_vec`](crate::to_vec).
+///
+/// # Memory
+/// Allocates from `alloc` only if the capacity of `out` or of `table` is too small: at most once
+/// for the bytes, and for a table of 8 bytes for each compound.
+///
+/// # Example
+/// For `true`, a buffer with the byte `40` then has `4041`.
+#[tactic(auto, using(crate::proofs::Rooted::appended, crate::proofs::Rooted::cut))]
+pub fn append<T: Serialize>(
+    alloc: Global,
+    table: &mut Vec<Hint>,
+    out: &mut Vec<u8>,
+    value: &T,
+) -> Result<(), Error>
+    ensures { AppendsBytesOf (T.tree value.now) out.old.items result out.new.items }
+{
+    let memory = mem::replace(table, Vec::new(alloc));
+    let (len, hints) = measure(Hints::with_memory(memory), value);
+    let Some(len) = len else {
+        *table = hints.into_memory();
+        return Err(error_of(value));
+    };
+    if out.reserve(len).is_err() {
+        *table = hints.into_memory();
+        return Err(Error::OutOfMemory);
+    }
+    let before = out.len();
+    let buffer = mem::replace(out, Vec::new(alloc));
+    let (is_written, hints, bytes) = append_value(hints, buffer, value);
+    *table = hints.into_memory();
+    *out = bytes;
+    if !is_written {
+        out.truncate(before);
+        return Err(error_of(value));
+    }
+    Ok(())
+}
+
+/// Appends the encoding of `value` to the bytes that `out` has. Unless an allocation fails, it
+/// succeeds if and only if the tree of the value is writable. After an error `out` has the bytes
+/// that it had.
+///
+/// # Encoding
+/// The bytes of `to_vec`.
+///
+/// # Errors
+/// Returns the errors of `to_vec`.
+///
+/// # Memory
+/// Allocates from `alloc` a table of 8 bytes for each compound. If the capacity of `out` is too
+/// small, it grows once, as a `push` makes it grow, so that the cost of many calls is linear.
+///
+/// # Example
+/// For `true`, a vector with the byte `40` then has `4041`.
+pub fn append_to<T: Serialize>(alloc: Global, out: &mut Vec<u8>, value: &T) -> Result<(), Error>
+    ensures { AppendsBytesOf (T.tree value.now) out.old.items result out.new.items }
+{
+    let mut table = Vec::new(alloc);
+    append(alloc, &mut table, out, value)
 }

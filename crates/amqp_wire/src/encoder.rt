@@ -3,7 +3,7 @@
 ghost use Rattle.std.specs.Prelude.{Ok, Err, MatchResult};
 ghost use Rattle.amqp_ser.specs.SizeAndBytes.{AreBytesOf};
 
-use crate::appending::append;
+use crate::encode::append;
 use amqp_data::Error;
 use amqp_ser::{Hint, Serialize};
 use std::alloc::Global;

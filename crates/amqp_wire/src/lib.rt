@@ -15,7 +15,6 @@
 #![tactic(auto)]
 
 mod appender;
-mod appending;
 mod counter;
 mod encode;
 mod encoder;
@@ -27,19 +26,15 @@ mod pass;
 mod pass_begin;
 mod pass_compound;
 mod pass_serializer;
-mod passes;
 mod position;
 mod put;
-mod scalar_forms;
 mod search;
 mod sink;
 mod strict;
 
-pub use appending::append_to;
-pub use encode::to_vec;
+pub use encode::{append_to, append_value, error_of, measure, to_vec};
 pub use encoder::Encoder;
 pub use hints::Hints;
 pub use lazy_value::to_lazy_value;
-pub use passes::{append_value, error_of, measure};
 pub use search::has_empty_array;
 pub use strict::to_vec_strict;

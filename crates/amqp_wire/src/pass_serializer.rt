@@ -7,7 +7,7 @@ use crate::pass::{GaveUp, Pass, done};
 use crate::pass_begin::{has_header, header_of};
 use crate::pass_compound::{PassCompound, resolve};
 use crate::position::Position;
-use crate::scalar_forms::{number_forms, text_codes};
+use crate::put::{number_forms, text_codes};
 use crate::sink::{HeaderKind, Sink};
 use amqp_data::EncodingCodes;
 use amqp_ser::{CompoundKind, Fixed, Marker, Serializer, Whole};

@@ -4,7 +4,7 @@ ghost use Rattle.std.specs.Prelude.{◌∷◌, IfOk};
 ghost use Rattle.amqp_ser.specs.Tree.{ubyte, ushort, uint, ulong, byte, short, int, long};
 ghost use Rattle.amqp_decode.specs.Prefix.{IsScalar};
 
-use crate::prefix::bytes::{split_byte, split_bytes};
+use crate::prefix::compounds::{split_byte, split_bytes};
 use crate::prefix::gave_up::GaveUp;
 
 /// Reads a ubyte.

@@ -9,7 +9,7 @@ ghost use Rattle.amqp_ser.specs.Tree.{decimal64, decimal128, uuid};
 ghost use Rattle.amqp_decode.specs.Prefix.{IsScalar};
 ghost use Rattle.amqp_decode.specs.Scalars.{character};
 
-use crate::prefix::bytes::{split_byte, split_bytes};
+use crate::prefix::compounds::{split_byte, split_bytes};
 use crate::prefix::gave_up::GaveUp;
 use amqp_data::{Dec32, Dec64, Dec128, F32Bits, F64Bits, Timestamp, Uuid};
 

@@ -7,7 +7,7 @@ ghost use Rattle.amqp_data.specs.Text.{symbol_text};
 ghost use Rattle.amqp_ser.specs.Tree.{binary, string, symbol};
 ghost use Rattle.amqp_decode.specs.Prefix.{IsScalar};
 
-use crate::prefix::bytes::split_sized;
+use crate::prefix::compounds::split_sized;
 use crate::prefix::gave_up::GaveUp;
 use amqp_data::{ByteBuf, Symbol};
 use std::alloc::Global;

@@ -11,7 +11,7 @@ ghost use Rattle.amqp_value.specs.Equal.{equal};
 ghost use Rattle.amqp_value.specs.TreeOf.{tree_of};
 
 use crate::Value;
-use crate::distinct::converted_map_of;
+use crate::map_builder::converted_map_of;
 use amqp_data::{Array, Described, Error, OrderedMap};
 use std::alloc::Global;
 use std::collections::BTreeMap;

@@ -8,7 +8,7 @@ use Rattle.amqp_decode.specs.Parsed.{value_in_bytes, parse, parse_content, paylo
 use Rattle.amqp_decode.specs.Places.{place_around, place_in, place_in_item}
 use Rattle.amqp_decode.specs.PlaceAt.{IsAt}
 use Rattle.amqp_decode.specs.WithoutBytes.{has_no_payload}
-use Rattle.amqp_decode.specs.declared.payload_shape.PayloadShape.TheVariants as shape
+use Rattle.amqp_decode.specs.declared.payload.PayloadShape.TheVariants as shape
 use Rattle.amqp_decode.proofs.SkipLemmas.{bare-array, content-shorter, counted-shorter, described-ok, first-skips, first-places, item-as, item-from_end-at, item-from_end-zero, items-found, items-from_end, list-content, map-content, no_items, no_list-content, no_map-content, odd-shorter, on-err, on-ok, parse-code, parse-no_code, scalar-found, skips-filled, skips-left, skips-none, skips-step, from_end-at, from_end-code, from_end-empty, from_end-no_code, from_end-zero, places-end, places-here, places-step}
 use Rattle.amqp_decode.proofs.Steps.{item-zero, parse-at, parse-empty, parse-zero}
 use Rattle.amqp_decode.proofs.skip.+skip.Goals as goal

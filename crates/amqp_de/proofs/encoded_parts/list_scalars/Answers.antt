@@ -4,7 +4,7 @@ use Rattle.amqp_ser.specs.Tree.{scalar}
 use Rattle.amqp_decode.specs.Parsed.{parse, parse_content}
 use Rattle.amqp_decode.proofs.Levels.{parse_value}
 use Rattle.amqp_de.proofs.Fillings.{filling_none, filling_more, filled}
-use Rattle.amqp_de.proofs.parts.list_scalars.Goals as goal
+use Rattle.amqp_de.proofs.encoded_parts.list_scalars.Goals as goal
 
 pub loop-read-init : goal.loop-read-init
 loop-read-init g c =

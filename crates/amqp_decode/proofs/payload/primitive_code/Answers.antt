@@ -1,7 +1,7 @@
 use Rattle.std.proofs.Common.{ap, ◌∙◌}
 use Rattle.amqp_decode.specs.Codes.{primitive_of}
 use Rattle.amqp_decode.proofs.CodeLemmas.{named-ok, unnamed-err, primitive-zero}
-use Rattle.amqp_decode.proofs.payload_shape.primitive_code.Goals as goal
+use Rattle.amqp_decode.proofs.payload.primitive_code.Goals as goal
 
 pub returns-then-byte-eq0-clause-err : goal.returns-then-byte-eq0-clause-err
 returns-then-byte-eq0-clause-err c = ap primitive_of c.if-byte-eq0.true ∙ primitive-zero

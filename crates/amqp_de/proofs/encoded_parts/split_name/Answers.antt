@@ -1,6 +1,6 @@
 use Rattle.std.proofs.Common.{rules, ◌≡◌, ◌∷◌}
 use Rattle.amqp_de.proofs.EncodedLemmas.{name_key}
-use Rattle.amqp_de.proofs.parts.split_name.Goals as goal
+use Rattle.amqp_de.proofs.encoded_parts.split_name.Goals as goal
 
 pub returns-in-Ok-split_byte-clause-key : goal.returns-in-Ok-split_byte-clause-key
 returns-in-Ok-split_byte-clause-key c d =

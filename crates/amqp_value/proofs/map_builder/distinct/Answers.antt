@@ -5,7 +5,7 @@ use Rattle.amqp_data.proofs.IndexLemmas.{on_true}
 use Rattle.amqp_data.proofs.PairLemmas.{insert_pairs_distinct}
 use Rattle.amqp_value.specs.Equal.{equal}
 use Rattle.amqp_value.proofs.ValueKeys.{equal-symmetric}
-use Rattle.amqp_value.proofs.distinct.distinct.Goals as goal
+use Rattle.amqp_value.proofs.map_builder.distinct.Goals as goal
 
 pub returns-then-ascends : goal.returns-then-ascends
 returns-then-ascends c =
