@@ -8,7 +8,7 @@ ghost use Rattle.amqp_decode.specs.Encodes.{Encodes};
 ghost use Rattle.amqp_decode.specs.WithoutBytes.{IsExceeded, IsWithin, elements_without_bytes};
 ghost use Rattle.amqp_decode.specs.Faults.{DecodeFails, FailsBy, decode_fault};
 
-use crate::read::read_encoded_value;
+use crate::read::read_value;
 use amqp_data::Error;
 use amqp_value::Value;
 use std::alloc::Global;
@@ -107,7 +107,7 @@ pub fn decode_value_to_depth(
 {
     let mut rest = bytes;
     let mut limit = elements;
-    let value = read_encoded_value(alloc, &mut rest, depth, &mut limit, bytes.len())?;
+    let value = read_value(alloc, &mut rest, depth, &mut limit, bytes.len())?;
     if rest.is_empty() {
         Ok(value)
     } else {

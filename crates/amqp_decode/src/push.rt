@@ -7,40 +7,7 @@ ghost use Rattle.amqp_value.specs.declared.value.Value.{Value};
 ghost use Rattle.amqp_decode.specs.Parsed.{ValueReader, ContentReader, value_in_bytes};
 
 use crate::fixed::read_fixed;
-use amqp_data::EncodingCodes;
 use amqp_value::Value;
-
-const NULL: u8 = EncodingCodes::Null as u8;
-
-const TRUE: u8 = EncodingCodes::BooleanTrue as u8;
-
-const FALSE: u8 = EncodingCodes::BooleanFalse as u8;
-
-const UINT_0: u8 = EncodingCodes::Uint0 as u8;
-
-const ULONG_0: u8 = EncodingCodes::Ulong0 as u8;
-
-const UBYTE: u8 = EncodingCodes::Ubyte as u8;
-
-const SMALL_UINT: u8 = EncodingCodes::SmallUint as u8;
-
-const SMALL_ULONG: u8 = EncodingCodes::SmallUlong as u8;
-
-const SMALL_INT: u8 = EncodingCodes::SmallInt as u8;
-
-const SMALL_LONG: u8 = EncodingCodes::SmallLong as u8;
-
-const UINT: u8 = EncodingCodes::Uint as u8;
-
-const INT: u8 = EncodingCodes::Int as u8;
-
-const ULONG: u8 = EncodingCodes::Ulong as u8;
-
-const LONG: u8 = EncodingCodes::Long as u8;
-
-const DOUBLE: u8 = EncodingCodes::Double as u8;
-
-const TIMESTAMP: u8 = EncodingCodes::Timestamp as u8;
 
 /// Reads the scalar of this code whose payload is at the start of `bytes`, appends it to `list`,
 /// and returns the bytes after it.
@@ -57,22 +24,22 @@ pub fn push_fixed<'a>(code: u8, bytes: &'a [u8], list: &mut Vec<Value>) -> Optio
     ensures room { IfNone result (vec_len list.new < vec_capacity list.new) }
 {
     match code {
-        NULL => push_at(NULL, bytes, list),
-        TRUE => push_at(TRUE, bytes, list),
-        FALSE => push_at(FALSE, bytes, list),
-        UINT_0 => push_at(UINT_0, bytes, list),
-        ULONG_0 => push_at(ULONG_0, bytes, list),
-        UBYTE => push_at(UBYTE, bytes, list),
-        SMALL_UINT => push_at(SMALL_UINT, bytes, list),
-        SMALL_ULONG => push_at(SMALL_ULONG, bytes, list),
-        SMALL_INT => push_at(SMALL_INT, bytes, list),
-        SMALL_LONG => push_at(SMALL_LONG, bytes, list),
-        UINT => push_at(UINT, bytes, list),
-        INT => push_at(INT, bytes, list),
-        ULONG => push_at(ULONG, bytes, list),
-        LONG => push_at(LONG, bytes, list),
-        DOUBLE => push_at(DOUBLE, bytes, list),
-        TIMESTAMP => push_at(TIMESTAMP, bytes, list),
+        0x40 => push_at(0x40, bytes, list),
+        0x41 => push_at(0x41, bytes, list),
+        0x42 => push_at(0x42, bytes, list),
+        0x43 => push_at(0x43, bytes, list),
+        0x44 => push_at(0x44, bytes, list),
+        0x50 => push_at(0x50, bytes, list),
+        0x52 => push_at(0x52, bytes, list),
+        0x53 => push_at(0x53, bytes, list),
+        0x54 => push_at(0x54, bytes, list),
+        0x55 => push_at(0x55, bytes, list),
+        0x70 => push_at(0x70, bytes, list),
+        0x71 => push_at(0x71, bytes, list),
+        0x80 => push_at(0x80, bytes, list),
+        0x81 => push_at(0x81, bytes, list),
+        0x82 => push_at(0x82, bytes, list),
+        0x83 => push_at(0x83, bytes, list),
         _ => None,
     }
 }

@@ -27,42 +27,12 @@ use amqp_data::{Array, Described, EncodingCodes, Error};
 use amqp_value::{MapBuilder, Value};
 use std::alloc::Global;
 
-// The codes of texts, binaries and compounds that most messages have.
-const BINARY: u8 = EncodingCodes::Vbin8 as u8;
-
-const STRING: u8 = EncodingCodes::Str8 as u8;
-
-const SYMBOL: u8 = EncodingCodes::Sym8 as u8;
-
-const LIST: u8 = EncodingCodes::List8 as u8;
-
-const LONG_STRING: u8 = EncodingCodes::Str32 as u8;
-
-const LONG_LIST: u8 = EncodingCodes::List32 as u8;
-
-// Reads the first encoded value of `bytes`, and leaves the bytes after it. Its array elements
-// without bytes are taken from `limit`, and more than that fail with `TooLong`. The counts of lists
-// and maps reserve memory for at most `spare` elements, keys and values.
-pub fn read_encoded_value(
-    alloc: Global,
-    bytes: &mut &[u8],
-    depth: u16,
-    limit: &mut Option<u32>,
-    spare: usize,
-) -> Result<Value, Error>
-    ensures ok { IfOk result (λ v. parse depth bytes.old.now ≡ Some (tree_of v, bytes.new.now)) }
-    ensures err { IfErr result (λ e. ¬ (e ≡ OutOfMemory) → ¬ (e ≡ TooLong) →
-        parse depth bytes.old.now ≡ None) }
-    ensures limit { Spends result limit.old limit.new (elements_without_bytes depth bytes.old.now) }
-    ensures fault { FailsBy (fault_in depth bytes.old.now) result }
-{
-    read_value(alloc, bytes, depth, limit, spare)
-}
-
-// Like `read_encoded_value`, inlined.
+/// Reads the first encoded value of `bytes`, and leaves the bytes after it. Its array elements
+/// without bytes are taken from `limit`, and more than that fail with `TooLong`. The counts of lists
+/// and maps reserve memory for at most `spare` elements, keys and values.
 #[cycle(read)]
 #[inline(always)]
-fn read_value(
+pub fn read_value(
     alloc: Global,
     bytes: &mut &[u8],
     depth: u16,
@@ -114,12 +84,12 @@ pub fn read_after_code(
         return read_described(alloc, bytes, depth, limit, spare);
     }
     match code {
-        BINARY => read_named(alloc, EncodingCodes::Vbin8, bytes, depth, limit, spare),
-        STRING => read_named(alloc, EncodingCodes::Str8, bytes, depth, limit, spare),
-        SYMBOL => read_named(alloc, EncodingCodes::Sym8, bytes, depth, limit, spare),
-        LIST => read_named(alloc, EncodingCodes::List8, bytes, depth, limit, spare),
-        LONG_STRING => read_named(alloc, EncodingCodes::Str32, bytes, depth, limit, spare),
-        LONG_LIST => read_named(alloc, EncodingCodes::List32, bytes, depth, limit, spare),
+        0xa0 => read_named(alloc, EncodingCodes::Vbin8, bytes, depth, limit, spare),
+        0xa1 => read_named(alloc, EncodingCodes::Str8, bytes, depth, limit, spare),
+        0xa3 => read_named(alloc, EncodingCodes::Sym8, bytes, depth, limit, spare),
+        0xc0 => read_named(alloc, EncodingCodes::List8, bytes, depth, limit, spare),
+        0xb1 => read_named(alloc, EncodingCodes::Str32, bytes, depth, limit, spare),
+        0xd0 => read_named(alloc, EncodingCodes::List32, bytes, depth, limit, spare),
         _ => read_named(alloc, primitive_code(code)?, bytes, depth, limit, spare),
     }
 }

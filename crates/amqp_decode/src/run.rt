@@ -11,6 +11,19 @@ use amqp_data::EncodingCodes;
 use amqp_value::Value;
 use std::alloc::AllocError;
 
+// Reads a run by a function that is inlined at each of these codes, with the width of its payloads.
+macro_rules! by_width {
+    ($read:ident, $code:ident, $depth:ident, $count:ident, $bytes:ident, $items:ident:
+        $($name:ident $width:literal),*) => {
+        match $code {
+            $(EncodingCodes::$name => {
+                $read(EncodingCodes::$name, $depth, $width, $count, $bytes, $items)
+            })*
+            _ => Ok($count),
+        }
+    };
+}
+
 /// Reads payloads of this code from the start of `bytes`, as array elements, and appends them to
 /// `items`: as many as it can, and at most `count`. Leaves the bytes after them, and returns the
 /// number of payloads that remain to be read.
@@ -47,48 +60,11 @@ pub fn read_run(
     if depth == 0 {
         return Ok(count);
     }
-    match code {
-        EncodingCodes::Null => read_fixed_run(EncodingCodes::Null, depth, 0, count, bytes, items),
-        EncodingCodes::BooleanTrue => {
-            read_fixed_run(EncodingCodes::BooleanTrue, depth, 0, count, bytes, items)
-        }
-        EncodingCodes::BooleanFalse => {
-            read_fixed_run(EncodingCodes::BooleanFalse, depth, 0, count, bytes, items)
-        }
-        EncodingCodes::Uint0 => read_fixed_run(EncodingCodes::Uint0, depth, 0, count, bytes, items),
-        EncodingCodes::Ulong0 => {
-            read_fixed_run(EncodingCodes::Ulong0, depth, 0, count, bytes, items)
-        }
-        EncodingCodes::SmallUint => {
-            read_fixed_run(EncodingCodes::SmallUint, depth, 1, count, bytes, items)
-        }
-        EncodingCodes::SmallUlong => {
-            read_fixed_run(EncodingCodes::SmallUlong, depth, 1, count, bytes, items)
-        }
-        EncodingCodes::SmallInt => {
-            read_fixed_run(EncodingCodes::SmallInt, depth, 1, count, bytes, items)
-        }
-        EncodingCodes::SmallLong => {
-            read_fixed_run(EncodingCodes::SmallLong, depth, 1, count, bytes, items)
-        }
-        EncodingCodes::Ubyte => read_fixed_run(EncodingCodes::Ubyte, depth, 1, count, bytes, items),
-        EncodingCodes::Byte => read_fixed_run(EncodingCodes::Byte, depth, 1, count, bytes, items),
-        EncodingCodes::Ushort => {
-            read_fixed_run(EncodingCodes::Ushort, depth, 2, count, bytes, items)
-        }
-        EncodingCodes::Short => read_fixed_run(EncodingCodes::Short, depth, 2, count, bytes, items),
-        EncodingCodes::Uint => read_fixed_run(EncodingCodes::Uint, depth, 4, count, bytes, items),
-        EncodingCodes::Int => read_fixed_run(EncodingCodes::Int, depth, 4, count, bytes, items),
-        EncodingCodes::Float => read_fixed_run(EncodingCodes::Float, depth, 4, count, bytes, items),
-        EncodingCodes::Ulong => read_fixed_run(EncodingCodes::Ulong, depth, 8, count, bytes, items),
-        EncodingCodes::Long => read_fixed_run(EncodingCodes::Long, depth, 8, count, bytes, items),
-        EncodingCodes::Double => {
-            read_fixed_run(EncodingCodes::Double, depth, 8, count, bytes, items)
-        }
-        EncodingCodes::Timestamp => {
-            read_fixed_run(EncodingCodes::Timestamp, depth, 8, count, bytes, items)
-        }
-        _ => Ok(count),
+    by_width! {
+        read_fixed_run, code, depth, count, bytes, items:
+        Null 0, BooleanTrue 0, BooleanFalse 0, Uint0 0, Ulong0 0, SmallUint 1, SmallUlong 1,
+        SmallInt 1, SmallLong 1, Ubyte 1, Byte 1, Ushort 2, Short 2, Uint 4, Int 4, Float 4,
+        Ulong 8, Long 8, Double 8, Timestamp 8
     }
 }
 

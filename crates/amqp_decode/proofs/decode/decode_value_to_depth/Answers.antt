@@ -16,15 +16,15 @@ returns-in_err-value-clause-err c =
 
 pub returns-then-is_empty-clause-ok : goal.returns-then-is_empty-clause-ok
 returns-then-is_empty-clause-ok c =
-    let len : length c.read_encoded_value.new.bytes.now ≡ 0 = grind (arith, common_steps) in
-    let empty : c.read_encoded_value.new.bytes.now ≡ [] = nil-from_length c.read_encoded_value.new.bytes.now len in
+    let len : length c.read_value.new.bytes.now ≡ 0 = grind (arith, common_steps) in
+    let empty : c.read_value.new.bytes.now ≡ [] = nil-from_length c.read_value.new.bytes.now len in
     encoded c.args.depth c.args.bytes.now (tree_of c.in_ok-value.value) (c.in_ok-value.ensures.ok ∙ ap (λ r. Some (tree_of c.in_ok-value.value, r)) empty)
 
 pub returns-then-is_empty-clause-within : goal.returns-then-is_empty-clause-within
 returns-then-is_empty-clause-within c = leaves-within _ _ _ c.in_ok-value.ensures.limit
 
 pub returns-else-is_empty-clause-err : goal.returns-else-is_empty-clause-err
-returns-else-is_empty-clause-err c = λ _ _. rest-encoded c.args.depth c.args.bytes.now c.read_encoded_value.new.bytes.now (tree_of c.in_ok-value.value) c.in_ok-value.ensures.ok (search rules)
+returns-else-is_empty-clause-err c = λ _ _. rest-encoded c.args.depth c.args.bytes.now c.read_value.new.bytes.now (tree_of c.in_ok-value.value) c.in_ok-value.ensures.ok (search rules)
 
 pub returns-in_err-value-clause-fault : goal.returns-in_err-value-clause-fault
 returns-in_err-value-clause-fault c =
@@ -32,4 +32,4 @@ returns-in_err-value-clause-fault c =
     search (rules, fails)
 
 pub returns-else-is_empty-clause-fault : goal.returns-else-is_empty-clause-fault
-returns-else-is_empty-clause-fault c = λ _ _. whole-rest c.args.depth c.args.bytes.now c.read_encoded_value.new.bytes.now (tree_of c.in_ok-value.value) c.in_ok-value.ensures.ok
+returns-else-is_empty-clause-fault c = λ _ _. whole-rest c.args.depth c.args.bytes.now c.read_value.new.bytes.now (tree_of c.in_ok-value.value) c.in_ok-value.ensures.ok
