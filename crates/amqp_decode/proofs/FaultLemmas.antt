@@ -1,5 +1,5 @@
 -- The faults at each step of the reader.
-use Rattle.std.proofs.Common.{◌≡◌, ℕ, zero, suc, ◌+◌, ◌-◌, ◌/◌, ◌%◌, ◌*◌, ◌<◌, Bool, true, false, IsTrue, List, [], ◌∷◌, length, Option, Some, None, Result, Ok, Err, if◌then◌else◌, ◌==◌, inl, inr, refl, sym, ap, ◌∙◌, arith}
+use Rattle.std.proofs.Common.{◌≡◌, ℕ, zero, suc, ◌+◌, ◌-◌, ◌%◌, ◌*◌, ◌<◌, IsTrue, List, [], ◌∷◌, length, Some, None, Result, Ok, Err, inl, inr, refl, sym, ap, ◌∙◌, arith}
 use Rattle.std.specs.Prelude.{◌⊎◌, IfErr}
 use Rattle.amqp_data.specs.FormatCode.{code_of}
 use Rattle.amqp_data.specs.declared.error.Error.{Error}
@@ -7,10 +7,9 @@ use Rattle.amqp_data.specs.declared.error.Error.TheVariants.{OutOfMemory, TooLon
 use Rattle.amqp_data.specs.declared.format_code.EncodingCodes.{EncodingCodes}
 use Rattle.amqp_frame.specs.Code.{category}
 use Rattle.amqp_ser.specs.Tree.{Tree}
-use Rattle.amqp_decode.specs.Codes.{is_primitive, primitive_of, shape_of_code}
-use Rattle.amqp_decode.specs.Parsed.{ValueReader, ContentReader, content_at, descriptor_at, payload_in, parse, parse_content}
-use Rattle.amqp_decode.specs.Faults.{Fault, PayloadFault, fault_of_values, fault_of_payload, fault_of_byte, fault_of_map, fault_of_array, fault_of_shape, fault_of_content, fault_of_descriptor, fault_of_value, fault_in, fault_in_item, fault_around, content_fault, decode_fault, FailsBy}
-use Rattle.amqp_decode.specs.declared.payload.PayloadShape.{PayloadShape}
+use Rattle.amqp_decode.specs.Codes.{is_primitive, primitive_of}
+use Rattle.amqp_decode.specs.Parsed.{ValueReader, ContentReader, content_at, payload_in, parse}
+use Rattle.amqp_decode.specs.Faults.{Fault, PayloadFault, fault_of_values, fault_of_payload, fault_of_map, fault_of_array, fault_in, fault_in_item, fault_around, content_fault, decode_fault, FailsBy}
 use Rattle.amqp_decode.proofs.CodeLemmas.{primitive-found, primitive-nonzero}
 
 pub fails-at : {T : Type 0} (r : Result T Error) (a b : Error) → a ≡ b → FailsBy a r → FailsBy b r

@@ -11,7 +11,7 @@ use Rattle.amqp_ser.specs.Tree.{Scalar, null, bool, ubyte, ushort, uint, ulong, 
 use Rattle.amqp_decode.specs.Codes.{is_primitive, shape_of_code}
 use Rattle.amqp_decode.specs.Scalars.{exact, character, scalar_in}
 use Rattle.amqp_decode.specs.Encodes.{IsPayload}
-use Rattle.amqp_decode.specs.Parsed.{ValueReader, ContentReader, cut, content_at, sized_at}
+use Rattle.amqp_decode.specs.Parsed.{cut, content_at, sized_at}
 use Rattle.amqp_decode.specs.Prefix.{IsScalar}
 use Rattle.amqp_decode.specs.declared.payload.PayloadShape.TheVariants as shape
 use Rattle.amqp_decode.proofs.CodeLemmas.{primitive-found, primitive-nonzero}

@@ -1,5 +1,5 @@
 -- What the first encoded value of bytes is, at any depth (AMQP 1.0 part 1, sections 1.2 and 1.6).
-use Rattle.std.specs.Prelude.{◌≡◌, ℕ, suc, ◌*◌, List, [], ◌∷◌, Some}
+use Rattle.std.specs.Prelude.{◌≡◌, ℕ, suc, List, [], ◌∷◌, Some}
 use Rattle.amqp_ser.specs.Tree.{Scalar, Descriptor, Tree, Pairs, trees_of, no_pairs, scalar, list, map, array, described}
 use Rattle.amqp_decode.specs.Parsed.{ValueReader, ContentReader, gather, insert, value_in_bytes, parse}
 use Rattle.amqp_decode.specs.WithoutBytes.{Counter, ContentCounter, elements_without_bytes, counted_in_value, sum_of}

@@ -4,14 +4,15 @@ ghost use Rattle.amqp_dump.specs.Kept.{Stays};
 
 use crate::fault::Fault;
 use crate::item::ItemKind;
-use crate::kinds::{PrimitiveType, type_of_code};
+use crate::kinds::type_of_code;
 use crate::level::{Level, LevelKind};
 use crate::scanner::Scanner;
 use crate::source::{Taking, take_byte};
+use amqp_value::ValueKind;
 
 impl Scanner {
     // The level of a compound with this many values that ends at this offset.
-    pub(crate) fn compound(&self, kind: PrimitiveType, count: u32, end: u64) -> Level {
+    pub(crate) fn compound(&self, kind: ValueKind, count: u32, end: u64) -> Level {
         let descriptor = match self.levels.last() {
             Some(level) if level.kind == LevelKind::Described && level.index == 2 => {
                 level.descriptor
@@ -24,7 +25,7 @@ impl Scanner {
             count,
             end,
             code: 0,
-            descriptor: if kind == PrimitiveType::List {
+            descriptor: if kind == ValueKind::List {
                 descriptor
             } else {
                 None
@@ -56,14 +57,14 @@ impl Scanner {
     pub(crate) fn open_compound<S: Taking>(
         &mut self,
         source: &mut S,
-        kind: PrimitiveType,
+        kind: ValueKind,
         wide: bool,
     ) -> Result<ItemKind, Fault>
         ensures kept { Stays (S.held source.old) (S.left source.old) (S.held source.new)
             (S.left source.new) }
     {
         let (size, count, end) = self.take_header(source, wide)?;
-        if kind == PrimitiveType::Map && count % 2 == 1 {
+        if kind == ValueKind::Map && count % 2 == 1 {
             return Err(Fault::OddCount);
         }
         let level = self.compound(kind, count, end);
@@ -81,12 +82,12 @@ impl Scanner {
             (S.left source.new) }
     {
         let (size, count, end) = self.take_header(source, wide)?;
-        let level = self.compound(PrimitiveType::Array, count, end);
+        let level = self.compound(ValueKind::Array, count, end);
         self.push(level)?;
         if count > 0 || size > 0 {
             self.take_constructor(source)?;
         }
-        Ok(ItemKind::Opens(PrimitiveType::Array, count, size))
+        Ok(ItemKind::Opens(ValueKind::Array, count, size))
     }
 
     // Takes the constructor of the innermost array, or the 00 before its descriptor.
@@ -104,7 +105,7 @@ impl Scanner {
             level.kind = if code == 0 {
                 LevelKind::Constructor
             } else {
-                LevelKind::Compound(PrimitiveType::Array)
+                LevelKind::Compound(ValueKind::Array)
             };
         }
         Ok(ItemKind::Constructor)

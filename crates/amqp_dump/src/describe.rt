@@ -2,12 +2,12 @@
 
 use crate::fault::Fault;
 use crate::item::{Item, ItemKind};
-use crate::kinds::{PrimitiveType, type_of_code};
+use crate::kinds::type_of_code;
 use crate::level::{Level, LevelKind};
 use crate::line::{Line, Part};
 use crate::names;
 use crate::texts::{first_payload, has_unprintable, push_value, value_of};
-use amqp_value::Value;
+use amqp_value::{Value, ValueKind};
 use std::alloc::Global;
 use std::num::{f32_from_bits_with_nan, f64_from_bits_with_nan};
 
@@ -22,7 +22,7 @@ pub(crate) fn describe(
     match item.kind {
         ItemKind::End | ItemKind::Closes(_) | ItemKind::More(_, _) => Ok(()),
         ItemKind::Described(code) => describe_descriptor(alloc, line, code, bytes),
-        ItemKind::Reserved => line.word(Part::PrimitiveType, "described"),
+        ItemKind::Reserved => line.word(Part::Type, "described"),
         ItemKind::Opens(kind, count, _) => describe_compound(line, kind, count, levels),
         ItemKind::Constructor => describe_elements(line, "constructor", levels),
         ItemKind::Repeats(count) => describe_repeated(line, count, levels),
@@ -38,9 +38,9 @@ pub(crate) fn describe(
         }
         ItemKind::Protocol => describe_protocol(line, bytes),
         ItemKind::Frame(kind, channel) => describe_frame(line, kind, channel, bytes),
-        ItemKind::Extended => line.word(Part::PrimitiveType, "extended header"),
+        ItemKind::Extended => line.word(Part::Type, "extended header"),
         ItemKind::Raw => {
-            line.word(Part::PrimitiveType, "payload")?;
+            line.word(Part::Type, "payload")?;
             push_printable(line, bytes)
         }
     }
@@ -49,7 +49,7 @@ pub(crate) fn describe(
 /// Whether the innermost level is an array, whose elements have no format codes.
 pub(crate) fn is_in_array(levels: &[Level]) -> bool {
     match levels.last() {
-        Some(level) => level.kind == LevelKind::Compound(PrimitiveType::Array),
+        Some(level) => level.kind == LevelKind::Compound(ValueKind::Array),
         None => false,
     }
 }
@@ -83,19 +83,19 @@ pub(crate) fn push_descriptor(alloc: Global, line: &mut Line, bytes: &[u8]) -> R
 
 fn describe_compound(
     line: &mut Line,
-    kind: PrimitiveType,
+    kind: ValueKind,
     count: u32,
     levels: &[Level],
 ) -> Result<(), Fault> {
     let (count, one, more) = match kind {
-        PrimitiveType::Map => (count / 2, "entry", "entries"),
-        PrimitiveType::Array => (count, "element", "elements"),
+        ValueKind::Map => (count / 2, "entry", "entries"),
+        ValueKind::Array => (count, "element", "elements"),
         _ => (count, "value", "values"),
     };
-    if kind == PrimitiveType::Array {
+    if kind == ValueKind::Array {
         describe_elements(line, kind.name(), levels)?;
     } else {
-        line.word(Part::PrimitiveType, kind.name())?;
+        line.word(Part::Type, kind.name())?;
     }
     let unit = if count == 1 { one } else { more };
     write!(line.text, " {count} {unit}")?;
@@ -103,7 +103,7 @@ fn describe_compound(
 }
 
 /// The kind of the elements of the innermost array, and their format code.
-pub(crate) fn element_kind(levels: &[Level]) -> Option<(PrimitiveType, u8)> {
+pub(crate) fn element_kind(levels: &[Level]) -> Option<(ValueKind, u8)> {
     let level = levels.last()?;
     let (kind, _) = type_of_code(level.code)?;
     Some((kind, level.code))
@@ -112,7 +112,7 @@ pub(crate) fn element_kind(levels: &[Level]) -> Option<(PrimitiveType, u8)> {
 // Appends a word, and the kind of the elements of the innermost array.
 fn describe_elements(line: &mut Line, word: &str, levels: &[Level]) -> Result<(), Fault> {
     line.space()?;
-    line.paint(Part::PrimitiveType)?;
+    line.paint(Part::Type)?;
     line.text.push_str(word)?;
     if let Some((kind, _)) = element_kind(levels) {
         line.text.push_str(" of ")?;
@@ -123,7 +123,7 @@ fn describe_elements(line: &mut Line, word: &str, levels: &[Level]) -> Result<()
 
 fn describe_repeated(line: &mut Line, count: u32, levels: &[Level]) -> Result<(), Fault> {
     if let Some((kind, code)) = element_kind(levels) {
-        line.word(Part::PrimitiveType, kind.name())?;
+        line.word(Part::Type, kind.name())?;
         let text = match code {
             0x41 => "true",
             0x42 => "false",
@@ -137,9 +137,9 @@ fn describe_repeated(line: &mut Line, count: u32, levels: &[Level]) -> Result<()
     Ok(())
 }
 
-fn describe_value(line: &mut Line, kind: PrimitiveType, value: &Value) -> Result<(), Fault> {
-    if kind != PrimitiveType::Null {
-        line.word(Part::PrimitiveType, kind.name())?;
+fn describe_value(line: &mut Line, kind: ValueKind, value: &Value) -> Result<(), Fault> {
+    if kind != ValueKind::Null {
+        line.word(Part::Type, kind.name())?;
     }
     line.space()?;
     line.paint(Part::Text)?;

@@ -1,9 +1,9 @@
 //! What is wrong with an input.
 
-use crate::kinds::PrimitiveType;
 use crate::level::Level;
 use crate::path::path_to;
 use amqp_data::Error;
+use amqp_value::ValueKind;
 use std::alloc::{AllocError, AllocFailed, Global};
 
 /// Why a run could not go on.
@@ -28,7 +28,7 @@ pub enum Fault {
     /// The count of a map is odd.
     OddCount,
     /// A payload is not one of this type: a boolean, a character or a text.
-    Payload(PrimitiveType),
+    Payload(ValueKind),
     /// A value is deeper than the limit.
     TooDeep,
     /// The size of a frame is less than 8.
@@ -144,8 +144,8 @@ fn expected(alloc: Global, fault: Fault) -> Result<String, Fault> {
         Fault::FormatCode => "expected a format code",
         Fault::SmallSize => "expected a size that includes the count",
         Fault::OddCount => "expected an even count",
-        Fault::Payload(PrimitiveType::Boolean) => "expected 00 or 01",
-        Fault::Payload(PrimitiveType::Char) => "expected a Unicode scalar value",
+        Fault::Payload(ValueKind::Bool) => "expected 00 or 01",
+        Fault::Payload(ValueKind::Char) => "expected a Unicode scalar value",
         Fault::Payload(_) => "expected UTF-8",
         Fault::TooDeep => "expected at most 256 levels",
     };

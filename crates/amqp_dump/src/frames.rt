@@ -4,11 +4,11 @@ ghost use Rattle.amqp_dump.specs.Kept.{Stays};
 
 use crate::fault::Fault;
 use crate::item::ItemKind;
-use crate::kinds::PrimitiveType;
 use crate::level::{Level, LevelKind};
 use crate::names;
 use crate::scanner::Scanner;
 use crate::source::{Taking, take_bytes};
+use amqp_value::ValueKind;
 
 // The most bytes of a frame on one line that are not shown as values.
 const RAW: u64 = 16;
@@ -136,7 +136,7 @@ impl Scanner {
         let Some(level) = self.levels.last() else {
             return;
         };
-        let is_field = level.kind == LevelKind::Compound(PrimitiveType::List)
+        let is_field = level.kind == LevelKind::Compound(ValueKind::List)
             && level.descriptor == Some(TRANSFER)
             && level.index == 6;
         if is_field && self.levels.len() == 3 {

@@ -1,7 +1,7 @@
 //! The items into which an input is split.
 
-use crate::kinds::PrimitiveType;
 use crate::level::LevelKind;
+use amqp_value::ValueKind;
 
 /// One piece of the input, with the bytes that the source has taken for it.
 #[derive(Clone, Copy, Debug, PartialEq, Eq)]
@@ -26,17 +26,17 @@ pub enum ItemKind {
     Reserved,
     /// The header of a list, a map or an array: the number of its values, and the bytes after the
     /// size.
-    Opens(PrimitiveType, u32, u32),
+    Opens(ValueKind, u32, u32),
     /// The constructor of an array, after its descriptor.
     Constructor,
     /// An array of this many elements that have no bytes, and are not shown one by one.
     Repeats(u32),
     /// A scalar of this type with its format code, if it is not in an array.
-    Scalar(PrimitiveType, u8),
+    Scalar(ValueKind, u8),
     /// The header of a binary or a text of this many bytes, and its first bytes.
-    Long(PrimitiveType, u32),
+    Long(ValueKind, u32),
     /// More bytes of a binary or a text, and whether they are the last.
-    More(PrimitiveType, bool),
+    More(ValueKind, bool),
     /// The end of a list, a map, an array, a described value or a frame. It has no bytes.
     Closes(LevelKind),
     /// A protocol header of eight bytes.

@@ -4,13 +4,13 @@ use crate::describe::is_in_array;
 use crate::fault::{Fault, Found};
 use crate::item::{Item, ItemKind};
 use crate::json_scalar::{add_scalar, push_escaped, push_payload};
-use crate::kinds::{PrimitiveType, type_of_code};
+use crate::kinds::type_of_code;
 use crate::level::{Level, LevelKind};
 use crate::line::push_hex;
 use crate::names;
 use crate::path::field_of;
 use crate::texts::{first_payload, piece_value, value_of};
-use amqp_value::Value;
+use amqp_value::{Value, ValueKind};
 use std::alloc::Global;
 
 /// The object of a value that is being written.
@@ -75,7 +75,7 @@ impl Json {
             Some(level) if level.kind == LevelKind::Described && level.index > 1 => ",\"value\":{",
             Some(level) if level.kind == LevelKind::Described => "{",
             Some(level) if is_map_value(level) => ",{",
-            Some(level) if level.kind == LevelKind::Compound(PrimitiveType::Map) => {
+            Some(level) if level.kind == LevelKind::Compound(ValueKind::Map) => {
                 self.separate()?;
                 "[{"
             }
@@ -147,8 +147,8 @@ impl Json {
         let (_, descriptor) = bytes.split_at(bytes.len().min(1));
         let value = value_of(self.alloc, descriptor, 0, false)?;
         let kind = match value {
-            Value::Symbol(_) => PrimitiveType::Symbol,
-            _ => PrimitiveType::Ulong,
+            Value::Symbol(_) => ValueKind::Symbol,
+            _ => ValueKind::Ulong,
         };
         add_scalar(self.alloc, text, kind, &value)?;
         text.push_str("}")?;
@@ -159,7 +159,7 @@ impl Json {
         Ok(())
     }
 
-    fn add_opening(&mut self, kind: PrimitiveType, levels: &[Level]) -> Result<(), Fault> {
+    fn add_opening(&mut self, kind: ValueKind, levels: &[Level]) -> Result<(), Fault> {
         self.comma = false;
         let text = &mut self.text;
         let name = kind.name();
@@ -171,7 +171,7 @@ impl Json {
             text.push_str(",\"descriptors\":[")?;
             return Ok(());
         }
-        if kind == PrimitiveType::Array {
+        if kind == ValueKind::Array {
             push_element_kind(text, levels)?;
         }
         text.push_str(",\"value\":[")?;
@@ -194,7 +194,7 @@ impl Json {
             return Ok(());
         };
         let text = &mut self.text;
-        if kind == PrimitiveType::List {
+        if kind == ValueKind::List {
             text.push_str("\"kind\":\"list\"")?;
         } else {
             let value = value_of(self.alloc, &[code], code, false)?;
@@ -217,7 +217,7 @@ impl Json {
 
 // Whether the level is a map at a value.
 fn is_map_value(level: &Level) -> bool {
-    level.kind == LevelKind::Compound(PrimitiveType::Map) && level.index % 2 == 0
+    level.kind == LevelKind::Compound(ValueKind::Map) && level.index % 2 == 0
 }
 
 fn push_element_kind(text: &mut String, levels: &[Level]) -> Result<(), Fault> {

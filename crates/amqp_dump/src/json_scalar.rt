@@ -1,10 +1,9 @@
 //! Scalars and texts as JSON.
 
 use crate::fault::Fault;
-use crate::kinds::PrimitiveType;
 use crate::line::push_hex;
 use crate::texts::{has_unprintable, is_command};
-use amqp_value::Value;
+use amqp_value::{Value, ValueKind};
 use std::alloc::Global;
 use std::num::{f32_from_bits_with_nan, f64_from_bits_with_nan};
 
@@ -28,7 +27,7 @@ pub(crate) fn push_payload(text: &mut String, value: &Value, more: bool) -> Resu
 pub(crate) fn add_scalar(
     alloc: Global,
     text: &mut String,
-    kind: PrimitiveType,
+    kind: ValueKind,
     value: &Value,
 ) -> Result<(), Fault> {
     let name = kind.name();

@@ -1,57 +1,6 @@
 //! The format codes and the types that they encode.
 
-/// A primitive type (AMQP 1.0 part 1, section 1.6).
-#[derive(Clone, Copy, Debug, PartialEq, Eq)]
-pub enum PrimitiveType {
-    /// `null`
-    Null,
-    /// `boolean`
-    Boolean,
-    /// `ubyte`
-    Ubyte,
-    /// `ushort`
-    Ushort,
-    /// `uint`
-    Uint,
-    /// `ulong`
-    Ulong,
-    /// `byte`
-    Byte,
-    /// `short`
-    Short,
-    /// `int`
-    Int,
-    /// `long`
-    Long,
-    /// `float`
-    Float,
-    /// `double`
-    Double,
-    /// `decimal32`
-    Decimal32,
-    /// `decimal64`
-    Decimal64,
-    /// `decimal128`
-    Decimal128,
-    /// `char`
-    Char,
-    /// `timestamp`
-    Timestamp,
-    /// `uuid`
-    Uuid,
-    /// `binary`
-    Binary,
-    /// `string`
-    String,
-    /// `symbol`
-    Symbol,
-    /// `list`
-    List,
-    /// `map`
-    Map,
-    /// `array`
-    Array,
-}
+use amqp_value::ValueKind;
 
 /// What follows a format code.
 #[derive(Clone, Copy, Debug, PartialEq, Eq)]
@@ -66,43 +15,6 @@ pub enum Shape {
     Array(bool),
 }
 
-impl PrimitiveType {
-    /// Returns the name of the type.
-    pub fn name(self) -> &'static str {
-        match self {
-            PrimitiveType::Null => "null",
-            PrimitiveType::Boolean => "boolean",
-            PrimitiveType::Ubyte => "ubyte",
-            PrimitiveType::Ushort => "ushort",
-            PrimitiveType::Uint => "uint",
-            PrimitiveType::Ulong => "ulong",
-            PrimitiveType::Byte => "byte",
-            PrimitiveType::Short => "short",
-            PrimitiveType::Int => "int",
-            PrimitiveType::Long => "long",
-            PrimitiveType::Float => "float",
-            PrimitiveType::Double => "double",
-            PrimitiveType::Decimal32 => "decimal32",
-            PrimitiveType::Decimal64 => "decimal64",
-            PrimitiveType::Decimal128 => "decimal128",
-            PrimitiveType::Char => "char",
-            PrimitiveType::Timestamp => "timestamp",
-            PrimitiveType::Uuid => "uuid",
-            PrimitiveType::Binary => "binary",
-            PrimitiveType::String => "string",
-            PrimitiveType::Symbol => "symbol",
-            PrimitiveType::List => "list",
-            PrimitiveType::Map => "map",
-            PrimitiveType::Array => "array",
-        }
-    }
-
-    /// Returns whether the payload is text in UTF-8.
-    pub fn is_text(self) -> bool {
-        matches!(self, PrimitiveType::String | PrimitiveType::Symbol)
-    }
-}
-
 /// Returns the type that a format code encodes and what follows the code, or `None` if no primitive
 /// type has it.
 ///
@@ -112,8 +24,8 @@ impl PrimitiveType {
 ///
 /// # Example
 ///
-/// `0x52` gives `PrimitiveType::Uint` and `Shape::Fixed(1)`.
-pub fn type_of_code(code: u8) -> Option<(PrimitiveType, Shape)> {
+/// `0x52` gives `ValueKind::Uint` and `Shape::Fixed(1)`.
+pub fn type_of_code(code: u8) -> Option<(ValueKind, Shape)> {
     match code {
         0x40..=0x45 => kind_without_payload(code),
         0x50..=0x98 => kind_of_fixed(code),
@@ -122,62 +34,62 @@ pub fn type_of_code(code: u8) -> Option<(PrimitiveType, Shape)> {
 }
 
 // Returns the type of a code with no payload.
-fn kind_without_payload(code: u8) -> Option<(PrimitiveType, Shape)> {
+fn kind_without_payload(code: u8) -> Option<(ValueKind, Shape)> {
     let found = match code {
-        0x40 => (PrimitiveType::Null, Shape::Fixed(0)),
-        0x41 | 0x42 => (PrimitiveType::Boolean, Shape::Fixed(0)),
-        0x43 => (PrimitiveType::Uint, Shape::Fixed(0)),
-        0x44 => (PrimitiveType::Ulong, Shape::Fixed(0)),
-        0x45 => (PrimitiveType::List, Shape::Fixed(0)),
+        0x40 => (ValueKind::Null, Shape::Fixed(0)),
+        0x41 | 0x42 => (ValueKind::Bool, Shape::Fixed(0)),
+        0x43 => (ValueKind::Uint, Shape::Fixed(0)),
+        0x44 => (ValueKind::Ulong, Shape::Fixed(0)),
+        0x45 => (ValueKind::List, Shape::Fixed(0)),
         _ => return None,
     };
     Some(found)
 }
 
 // Returns the type of a code with a payload of a fixed length.
-fn kind_of_fixed(code: u8) -> Option<(PrimitiveType, Shape)> {
+fn kind_of_fixed(code: u8) -> Option<(ValueKind, Shape)> {
     let found = match code {
-        0x50 => (PrimitiveType::Ubyte, Shape::Fixed(1)),
-        0x51 => (PrimitiveType::Byte, Shape::Fixed(1)),
-        0x52 => (PrimitiveType::Uint, Shape::Fixed(1)),
-        0x53 => (PrimitiveType::Ulong, Shape::Fixed(1)),
-        0x54 => (PrimitiveType::Int, Shape::Fixed(1)),
-        0x55 => (PrimitiveType::Long, Shape::Fixed(1)),
-        0x56 => (PrimitiveType::Boolean, Shape::Fixed(1)),
-        0x60 => (PrimitiveType::Ushort, Shape::Fixed(2)),
-        0x61 => (PrimitiveType::Short, Shape::Fixed(2)),
-        0x70 => (PrimitiveType::Uint, Shape::Fixed(4)),
-        0x71 => (PrimitiveType::Int, Shape::Fixed(4)),
-        0x72 => (PrimitiveType::Float, Shape::Fixed(4)),
-        0x73 => (PrimitiveType::Char, Shape::Fixed(4)),
-        0x74 => (PrimitiveType::Decimal32, Shape::Fixed(4)),
-        0x80 => (PrimitiveType::Ulong, Shape::Fixed(8)),
-        0x81 => (PrimitiveType::Long, Shape::Fixed(8)),
-        0x82 => (PrimitiveType::Double, Shape::Fixed(8)),
-        0x83 => (PrimitiveType::Timestamp, Shape::Fixed(8)),
-        0x84 => (PrimitiveType::Decimal64, Shape::Fixed(8)),
-        0x94 => (PrimitiveType::Decimal128, Shape::Fixed(16)),
-        0x98 => (PrimitiveType::Uuid, Shape::Fixed(16)),
+        0x50 => (ValueKind::Ubyte, Shape::Fixed(1)),
+        0x51 => (ValueKind::Byte, Shape::Fixed(1)),
+        0x52 => (ValueKind::Uint, Shape::Fixed(1)),
+        0x53 => (ValueKind::Ulong, Shape::Fixed(1)),
+        0x54 => (ValueKind::Int, Shape::Fixed(1)),
+        0x55 => (ValueKind::Long, Shape::Fixed(1)),
+        0x56 => (ValueKind::Bool, Shape::Fixed(1)),
+        0x60 => (ValueKind::Ushort, Shape::Fixed(2)),
+        0x61 => (ValueKind::Short, Shape::Fixed(2)),
+        0x70 => (ValueKind::Uint, Shape::Fixed(4)),
+        0x71 => (ValueKind::Int, Shape::Fixed(4)),
+        0x72 => (ValueKind::Float, Shape::Fixed(4)),
+        0x73 => (ValueKind::Char, Shape::Fixed(4)),
+        0x74 => (ValueKind::Decimal32, Shape::Fixed(4)),
+        0x80 => (ValueKind::Ulong, Shape::Fixed(8)),
+        0x81 => (ValueKind::Long, Shape::Fixed(8)),
+        0x82 => (ValueKind::Double, Shape::Fixed(8)),
+        0x83 => (ValueKind::Timestamp, Shape::Fixed(8)),
+        0x84 => (ValueKind::Decimal64, Shape::Fixed(8)),
+        0x94 => (ValueKind::Decimal128, Shape::Fixed(16)),
+        0x98 => (ValueKind::Uuid, Shape::Fixed(16)),
         _ => return None,
     };
     Some(found)
 }
 
 // Returns the type of a code with a size after it.
-fn kind_of_sized(code: u8) -> Option<(PrimitiveType, Shape)> {
+fn kind_of_sized(code: u8) -> Option<(ValueKind, Shape)> {
     let found = match code {
-        0xa0 => (PrimitiveType::Binary, Shape::Sized(false)),
-        0xa1 => (PrimitiveType::String, Shape::Sized(false)),
-        0xa3 => (PrimitiveType::Symbol, Shape::Sized(false)),
-        0xb0 => (PrimitiveType::Binary, Shape::Sized(true)),
-        0xb1 => (PrimitiveType::String, Shape::Sized(true)),
-        0xb3 => (PrimitiveType::Symbol, Shape::Sized(true)),
-        0xc0 => (PrimitiveType::List, Shape::Counted(false)),
-        0xc1 => (PrimitiveType::Map, Shape::Counted(false)),
-        0xd0 => (PrimitiveType::List, Shape::Counted(true)),
-        0xd1 => (PrimitiveType::Map, Shape::Counted(true)),
-        0xe0 => (PrimitiveType::Array, Shape::Array(false)),
-        0xf0 => (PrimitiveType::Array, Shape::Array(true)),
+        0xa0 => (ValueKind::Binary, Shape::Sized(false)),
+        0xa1 => (ValueKind::String, Shape::Sized(false)),
+        0xa3 => (ValueKind::Symbol, Shape::Sized(false)),
+        0xb0 => (ValueKind::Binary, Shape::Sized(true)),
+        0xb1 => (ValueKind::String, Shape::Sized(true)),
+        0xb3 => (ValueKind::Symbol, Shape::Sized(true)),
+        0xc0 => (ValueKind::List, Shape::Counted(false)),
+        0xc1 => (ValueKind::Map, Shape::Counted(false)),
+        0xd0 => (ValueKind::List, Shape::Counted(true)),
+        0xd1 => (ValueKind::Map, Shape::Counted(true)),
+        0xe0 => (ValueKind::Array, Shape::Array(false)),
+        0xf0 => (ValueKind::Array, Shape::Array(true)),
         _ => return None,
     };
     Some(found)

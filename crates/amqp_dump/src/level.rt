@@ -1,6 +1,6 @@
 //! The values that are open.
 
-use crate::kinds::PrimitiveType;
+use amqp_value::ValueKind;
 
 /// A value that is open, and what is known of it.
 #[derive(Clone, Copy, Debug, PartialEq, Eq)]
@@ -25,7 +25,7 @@ pub enum LevelKind {
     /// A described value: its descriptor is its value 0.
     Described,
     /// A list, a map or an array.
-    Compound(PrimitiveType),
+    Compound(ValueKind),
     /// An array, of which a descriptor or a constructor comes next.
     Constructor,
     /// A frame. Its performative is its value 0.

@@ -32,11 +32,12 @@ mod texts;
 mod tree;
 mod types;
 
+pub use amqp_value::ValueKind;
 pub use dumper::{Report, run};
 pub use fault::{Fault, Found};
 pub use hex_reader::HexReader;
 pub use item::{Item, ItemKind};
-pub use kinds::{PrimitiveType, Shape, type_of_code};
+pub use kinds::{Shape, type_of_code};
 pub use level::{Level, LevelKind};
 pub use options::{Options, OutputFormat};
 pub use scanner::{MAX_DEPTH, Scanner};

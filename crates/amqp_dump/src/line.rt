@@ -16,7 +16,7 @@ pub(crate) enum Part {
     /// The name of a field or a descriptor.
     Name,
     /// The name of a kind.
-    PrimitiveType,
+    Type,
     /// The text of a value.
     Text,
     /// A mark.
@@ -31,7 +31,7 @@ fn color_of(part: Part) -> &'static str {
         Part::Offset => "\x1b[2m",
         Part::Bytes => "\x1b[36m",
         Part::Name => "\x1b[1;34m",
-        Part::PrimitiveType => "\x1b[33m",
+        Part::Type => "\x1b[33m",
         Part::Text => "\x1b[32m",
         Part::Mark => "\x1b[35m",
         Part::Fault => "\x1b[1;31m",

@@ -3,10 +3,10 @@
 use crate::describe::is_in_array;
 use crate::fault::Fault;
 use crate::item::{Item, ItemKind};
-use crate::kinds::PrimitiveType;
 use crate::level::{Level, LevelKind};
 use crate::names;
 use crate::texts::value_of;
+use amqp_value::ValueKind;
 use std::alloc::Global;
 
 // The most keys of a map, and the most bytes of a key, that are kept to find repeated ones.
@@ -64,7 +64,7 @@ impl Marks {
             ItemKind::Reserved => self.found.push("descriptor neither ulong nor symbol")?,
             ItemKind::Constructor => self.found.push("described constructor")?,
             ItemKind::Opens(kind, _, size) => self.add_opening(kind, size, levels)?,
-            ItemKind::Closes(LevelKind::Compound(PrimitiveType::Map)) => {
+            ItemKind::Closes(LevelKind::Compound(ValueKind::Map)) => {
                 let _ = self.maps.pop();
             }
             ItemKind::Scalar(kind, code) => self.add_key(kind, code, outer, bytes)?,
@@ -81,7 +81,7 @@ impl Marks {
         let Some(found) = level.descriptor.and_then(names::type_of) else {
             return Ok(());
         };
-        let is_list = level.kind == LevelKind::Compound(PrimitiveType::List) && found.has_fields();
+        let is_list = level.kind == LevelKind::Compound(ValueKind::List) && found.has_fields();
         if is_list && level.index as usize > found.fields.len() {
             self.found.push("past the last field")?;
         }
@@ -114,16 +114,11 @@ impl Marks {
         Ok(())
     }
 
-    fn add_opening(
-        &mut self,
-        kind: PrimitiveType,
-        size: u32,
-        levels: &[Level],
-    ) -> Result<(), Fault> {
-        if kind == PrimitiveType::Map {
+    fn add_opening(&mut self, kind: ValueKind, size: u32, levels: &[Level]) -> Result<(), Fault> {
+        if kind == ValueKind::Map {
             self.maps.push(Vec::new(self.alloc))?;
         }
-        if kind == PrimitiveType::Array && size == 0 {
+        if kind == ValueKind::Array && size == 0 {
             self.found.push("array without a constructor")?;
         }
         let is_described = levels
@@ -138,13 +133,13 @@ impl Marks {
     // Marks a key that came before in its map.
     fn add_key(
         &mut self,
-        kind: PrimitiveType,
+        kind: ValueKind,
         code: u8,
         outer: &[Level],
         bytes: &[u8],
     ) -> Result<(), Fault> {
         let is_key = outer.last().is_some_and(|level| {
-            level.kind == LevelKind::Compound(PrimitiveType::Map) && level.index % 2 == 1
+            level.kind == LevelKind::Compound(ValueKind::Map) && level.index % 2 == 1
         });
         if !is_key || bytes.len() > MAX_KEY {
             return Ok(());

@@ -1,9 +1,9 @@
 //! Places in an input.
 
 use crate::fault::Fault;
-use crate::kinds::PrimitiveType;
 use crate::level::{Level, LevelKind};
 use crate::names;
+use amqp_value::ValueKind;
 use std::alloc::Global;
 
 /// One step from a value to a value inside it.
@@ -17,7 +17,7 @@ pub(crate) enum Step {
 
 /// Returns the name of the field at which the level is.
 pub(crate) fn field_of(level: &Level) -> Option<&'static str> {
-    if level.kind != LevelKind::Compound(PrimitiveType::List) || level.index == 0 {
+    if level.kind != LevelKind::Compound(ValueKind::List) || level.index == 0 {
         return None;
     }
     let found = names::type_of(level.descriptor?)?;

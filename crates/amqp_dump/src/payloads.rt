@@ -4,10 +4,10 @@ ghost use Rattle.amqp_dump.specs.Kept.{Stays};
 
 use crate::fault::Fault;
 use crate::item::ItemKind;
-use crate::kinds::PrimitiveType;
 use crate::scanner::{Long, Scanner};
 use crate::source::{Taking, take_bytes};
 use crate::texts::{bad_payload, missing_bytes};
+use amqp_value::ValueKind;
 
 // The most bytes of a long payload that are in one item after its first.
 const PIECE: usize = 4096;
@@ -30,7 +30,7 @@ impl Scanner {
     pub(crate) fn take_sized<S: Taking>(
         &mut self,
         source: &mut S,
-        kind: PrimitiveType,
+        kind: ValueKind,
         code: u8,
         wide: bool,
     ) -> Result<ItemKind, Fault>
@@ -81,7 +81,7 @@ impl Scanner {
         };
         let mut left = long.left.saturating_sub(len);
         take_part(source, len, left)?;
-        if long.kind.is_text() {
+        if matches!(long.kind, ValueKind::String | ValueKind::Symbol) {
             let missing = missing_bytes(source.item_bytes()).min(left);
             take_part(source, missing, left.saturating_sub(missing))?;
             left = left.saturating_sub(missing);
@@ -102,7 +102,7 @@ impl Scanner {
     pub(crate) fn check<S: Taking>(
         &mut self,
         source: &S,
-        kind: PrimitiveType,
+        kind: ValueKind,
         code: u8,
         from: usize,
     ) -> Result<(), Fault> {

@@ -5,9 +5,10 @@ ghost use Rattle.amqp_dump.specs.Kept.{Stays};
 
 use crate::fault::Fault;
 use crate::item::{Item, ItemKind};
-use crate::kinds::{PrimitiveType, Shape, type_of_code};
+use crate::kinds::{Shape, type_of_code};
 use crate::level::{Level, LevelKind};
 use crate::source::{Taking, take_byte, take_bytes};
+use amqp_value::ValueKind;
 use std::alloc::Global;
 
 /// The most values that are open at once, as in `decode_value`.
@@ -16,7 +17,7 @@ pub const MAX_DEPTH: usize = 256;
 // A binary or a text of which bytes are left.
 #[derive(Clone, Copy, Debug)]
 pub(crate) struct Long {
-    pub(crate) kind: PrimitiveType,
+    pub(crate) kind: ValueKind,
     pub(crate) left: u32,
 }
 
@@ -119,7 +120,7 @@ impl Scanner {
             LevelKind::Constructor if level.code == 0 => self.take_value(source),
             LevelKind::Constructor => self.take_constructor(source),
             _ if level.is_full() => self.close(source, level),
-            LevelKind::Compound(PrimitiveType::Array) => self.take_element(source, level),
+            LevelKind::Compound(ValueKind::Array) => self.take_element(source, level),
             _ => self.take_value(source),
         }
     }
@@ -230,17 +231,17 @@ impl Scanner {
     {
         match type_of_code(code) {
             None => Err(Fault::FormatCode),
-            Some((PrimitiveType::List, Shape::Fixed(_))) => {
-                let level = self.compound(PrimitiveType::List, 0, source.at());
+            Some((ValueKind::List, Shape::Fixed(_))) => {
+                let level = self.compound(ValueKind::List, 0, source.at());
                 self.push(level)?;
-                Ok(ItemKind::Opens(PrimitiveType::List, 0, 0))
+                Ok(ItemKind::Opens(ValueKind::List, 0, 0))
             }
             Some((kind, Shape::Fixed(width))) => {
                 self.need(source, u64::from(width))?;
                 let from = source.item_bytes().len();
                 take_bytes(source, usize::from(width))?;
                 self.check(source, kind, code, from)?;
-                if kind == PrimitiveType::Boolean {
+                if kind == ValueKind::Bool {
                     self.note_more(code == 0x41 || source.item_bytes().ends_with(&[0x56, 1]));
                 }
                 Ok(ItemKind::Scalar(kind, code))

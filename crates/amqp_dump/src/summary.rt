@@ -3,10 +3,10 @@
 use crate::describe::element_kind;
 use crate::fault::Fault;
 use crate::item::{Item, ItemKind};
-use crate::kinds::PrimitiveType;
 use crate::level::Level;
 use crate::names;
 use crate::scanner::MAX_DEPTH;
+use amqp_value::ValueKind;
 use std::alloc::Global;
 
 // The numeric descriptors that are counted one by one.
@@ -38,38 +38,39 @@ pub struct Summary {
     root: Option<u64>,
 }
 
-const PRIMITIVE_TYPES: [PrimitiveType; 24] = [
-    PrimitiveType::Null,
-    PrimitiveType::Boolean,
-    PrimitiveType::Ubyte,
-    PrimitiveType::Ushort,
-    PrimitiveType::Uint,
-    PrimitiveType::Ulong,
-    PrimitiveType::Byte,
-    PrimitiveType::Short,
-    PrimitiveType::Int,
-    PrimitiveType::Long,
-    PrimitiveType::Float,
-    PrimitiveType::Double,
-    PrimitiveType::Decimal32,
-    PrimitiveType::Decimal64,
-    PrimitiveType::Decimal128,
-    PrimitiveType::Char,
-    PrimitiveType::Timestamp,
-    PrimitiveType::Uuid,
-    PrimitiveType::Binary,
-    PrimitiveType::String,
-    PrimitiveType::Symbol,
-    PrimitiveType::List,
-    PrimitiveType::Map,
-    PrimitiveType::Array,
+const KINDS: [ValueKind; 25] = [
+    ValueKind::Described,
+    ValueKind::Null,
+    ValueKind::Bool,
+    ValueKind::Ubyte,
+    ValueKind::Ushort,
+    ValueKind::Uint,
+    ValueKind::Ulong,
+    ValueKind::Byte,
+    ValueKind::Short,
+    ValueKind::Int,
+    ValueKind::Long,
+    ValueKind::Float,
+    ValueKind::Double,
+    ValueKind::Decimal32,
+    ValueKind::Decimal64,
+    ValueKind::Decimal128,
+    ValueKind::Char,
+    ValueKind::Timestamp,
+    ValueKind::Uuid,
+    ValueKind::Binary,
+    ValueKind::String,
+    ValueKind::Symbol,
+    ValueKind::List,
+    ValueKind::Map,
+    ValueKind::Array,
 ];
 
 impl Summary {
     /// Creates one of nothing.
     pub(crate) fn new(alloc: Global) -> Result<Summary, Fault> {
         Ok(Summary {
-            kinds: vec![in alloc; 0; 24]?,
+            kinds: vec![in alloc; 0; KINDS.len()]?,
             types: vec![in alloc; 0; TYPES]?,
             others: 0,
             frames: 0,
@@ -145,7 +146,7 @@ impl Summary {
             text,
             "summary: {bytes} bytes, {frames} frames, {faults} faults"
         )?;
-        for (count, kind) in self.kinds.iter().zip(PRIMITIVE_TYPES.iter()) {
+        for (count, kind) in self.kinds.iter().zip(KINDS.iter()) {
             push_count(&mut text, *count, kind.name())?;
         }
         self.push_types(&mut text)?;

@@ -3,11 +3,10 @@
 use crate::describe::{describe, is_in_array, push_descriptor};
 use crate::fault::Fault;
 use crate::item::{Item, ItemKind};
-use crate::kinds::PrimitiveType;
 use crate::level::{Level, LevelKind};
 use crate::line::Line;
 use crate::texts::{first_payload, piece_value, push_safe, push_value, value_of};
-use amqp_value::Value;
+use amqp_value::{Value, ValueKind};
 use std::alloc::Global;
 
 /// Appends what an item adds to the text of a value of the depth `base`. `levels` are those that
@@ -28,9 +27,9 @@ pub(crate) fn push_text(
     }
     match item.kind {
         ItemKind::Described(_) => push_descriptor(alloc, line, bytes)?,
-        ItemKind::Opens(PrimitiveType::Map, _, _) => line.push("{")?,
+        ItemKind::Opens(ValueKind::Map, _, _) => line.push("{")?,
         ItemKind::Opens(_, _, _) => line.push("[")?,
-        ItemKind::Closes(LevelKind::Compound(PrimitiveType::Map)) => line.push("}")?,
+        ItemKind::Closes(LevelKind::Compound(ValueKind::Map)) => line.push("}")?,
         ItemKind::Closes(LevelKind::Compound(_)) => line.push("]")?,
         ItemKind::Constructor => line.push(" -> ")?,
         ItemKind::Scalar(_, code) => {
@@ -65,7 +64,7 @@ fn separator(outer: &[Level]) -> &'static str {
     };
     match level.kind {
         LevelKind::Described if level.index > 1 => " -> ",
-        LevelKind::Compound(PrimitiveType::Map) if level.index % 2 == 0 => ": ",
+        LevelKind::Compound(ValueKind::Map) if level.index % 2 == 0 => ": ",
         LevelKind::Compound(_) if level.index > 1 => ", ",
         _ => "",
     }
@@ -75,14 +74,14 @@ fn separator(outer: &[Level]) -> &'static str {
 // it is the last.
 fn push_piece(
     line: &mut Line,
-    kind: PrimitiveType,
+    kind: ValueKind,
     value: &Value,
     is_first: bool,
     is_last: bool,
 ) -> Result<(), Fault> {
     let (begin, end) = match kind {
-        PrimitiveType::String => ("\"", "\""),
-        PrimitiveType::Symbol => (":", ""),
+        ValueKind::String => ("\"", "\""),
+        ValueKind::Symbol => (":", ""),
         _ => ("0x[", "]"),
     };
     line.value_text.clear();

@@ -10,10 +10,9 @@ ghost use Rattle.amqp_dump.specs.Safe.{is_command, safe, safe_char};
 
 use crate::describe::is_in_array;
 use crate::fault::{Fault, input_fault};
-use crate::kinds::PrimitiveType;
 use crate::level::Level;
 use amqp_decode::decode_value;
-use amqp_value::Value;
+use amqp_value::{Value, ValueKind};
 use std::alloc::Global;
 use std::str;
 
@@ -35,16 +34,16 @@ pub(crate) fn missing_bytes(text: &[u8]) -> u32 {
 }
 
 /// Returns the offset of the first byte of the payload that is wrong, if one is.
-pub(crate) fn bad_payload(kind: PrimitiveType, code: u8, payload: &[u8]) -> Option<usize> {
+pub(crate) fn bad_payload(kind: ValueKind, code: u8, payload: &[u8]) -> Option<usize> {
     match (kind, payload) {
-        (PrimitiveType::Boolean, [byte]) if code == 0x56 && *byte > 1 => Some(0),
-        (PrimitiveType::Char, [a, b, c, d]) => {
+        (ValueKind::Bool, [byte]) if code == 0x56 && *byte > 1 => Some(0),
+        (ValueKind::Char, [a, b, c, d]) => {
             match char::from_u32(u32::from_be_bytes([*a, *b, *c, *d])) {
                 Some(_) => None,
                 None => Some(0),
             }
         }
-        (PrimitiveType::String | PrimitiveType::Symbol, text) => match str::from_utf8(text) {
+        (ValueKind::String | ValueKind::Symbol, text) => match str::from_utf8(text) {
             Ok(_) => None,
             Err(error) => Some(error.valid_up_to()),
         },
@@ -91,7 +90,7 @@ fn decoded(alloc: Global, bytes: &[u8]) -> Result<Value, Fault>
 /// Returns the first bytes of a long payload, as a value of its kind.
 pub(crate) fn first_payload(
     alloc: Global,
-    kind: PrimitiveType,
+    kind: ValueKind,
     levels: &[Level],
     bytes: &[u8],
 ) -> Result<Value, Fault> {
@@ -106,14 +105,10 @@ pub(crate) fn first_payload(
 }
 
 /// Returns a part of a payload, as a value of its kind.
-pub(crate) fn piece_value(
-    alloc: Global,
-    kind: PrimitiveType,
-    payload: &[u8],
-) -> Result<Value, Fault> {
+pub(crate) fn piece_value(alloc: Global, kind: ValueKind, payload: &[u8]) -> Result<Value, Fault> {
     let code = match kind {
-        PrimitiveType::String => 0xb1,
-        PrimitiveType::Symbol => 0xb3,
+        ValueKind::String => 0xb1,
+        ValueKind::Symbol => 0xb3,
         _ => 0xb0,
     };
     let Ok(len) = u32::try_from(payload.len()) else {

@@ -3,11 +3,11 @@
 use crate::describe::describe;
 use crate::fault::{Fault, Found};
 use crate::item::{Item, ItemKind};
-use crate::kinds::PrimitiveType;
 use crate::level::{Level, LevelKind};
 use crate::line::{Line, Part, push_hex};
 use crate::options::Options;
 use crate::path::field_of;
+use amqp_value::ValueKind;
 use std::alloc::Global;
 
 // The width of the bytes of a line, in bytes of two digits.
@@ -104,7 +104,7 @@ fn push_indent(line: &mut Line, count: usize, depth: usize) -> Result<(), Fault>
 fn indent_of(outer: &[Level]) -> usize {
     let mut count: usize = 0;
     for level in outer {
-        let is_map_value = level.kind == LevelKind::Compound(PrimitiveType::Map)
+        let is_map_value = level.kind == LevelKind::Compound(ValueKind::Map)
             && level.index % 2 == 0;
         count = count.saturating_add(if is_map_value { 4 } else { 2 });
     }
@@ -123,7 +123,7 @@ fn push_label(line: &mut Line, outer: &[Level]) -> Result<(), Fault> {
         line.end()?;
         line.push(" ")?;
     }
-    if level.kind == LevelKind::Compound(PrimitiveType::Map) && level.index % 2 == 0 {
+    if level.kind == LevelKind::Compound(ValueKind::Map) && level.index % 2 == 0 {
         line.push("= ")?;
     }
     let is_descriptor = level.kind == LevelKind::Described && level.index == 1;

@@ -1,7 +1,7 @@
-use Rattle.std.proofs.Common.{rules, ◌≡◌, [], ◌∷◌, ◌++◌, Some, sym, ap, ◌∙◌, map, ◌+◌, ◌-◌}
+use Rattle.std.proofs.Common.{rules, ◌≡◌, [], ◌∷◌, ◌++◌, Some, sym, ◌∙◌}
 use Rattle.amqp_value.specs.TreeOf.{tree_of}
 use Rattle.amqp_data.specs.FormatCode.{code_of}
-use Rattle.amqp_decode.specs.Parsed.{parse_content, payload_in, gather}
+use Rattle.amqp_decode.specs.Parsed.{parse_content, payload_in}
 use Rattle.amqp_decode.specs.WithoutBytes.{content_without_bytes, in_payload}
 use Rattle.amqp_decode.proofs.Steps.{item-found, values-and_then}
 use Rattle.amqp_decode.specs.Faults.{fault_in_item}
