@@ -4,7 +4,7 @@ ghost use Rattle.amqp_dump.specs.Kept.{Stays};
 
 use crate::fault::Fault;
 use crate::item::ItemKind;
-use crate::kinds::type_of_code;
+use crate::kinds::kind_of_code;
 use crate::level::{Level, LevelKind};
 use crate::scanner::Scanner;
 use crate::source::{Taking, take_byte};
@@ -97,7 +97,7 @@ impl Scanner {
     {
         self.need(source, 1)?;
         let code = take_byte(source)?;
-        if code != 0 && type_of_code(code).is_none() {
+        if code != 0 && kind_of_code(code).is_none() {
             return Err(Fault::FormatCode);
         }
         if let Some(level) = self.levels.last_mut() {

@@ -2,7 +2,7 @@
 
 use crate::fault::Fault;
 use crate::item::{Item, ItemKind};
-use crate::kinds::type_of_code;
+use crate::kinds::kind_of_code;
 use crate::level::{Level, LevelKind};
 use crate::line::{Line, Part};
 use crate::names;
@@ -105,8 +105,7 @@ fn describe_compound(
 /// The kind of the elements of the innermost array, and their format code.
 pub(crate) fn element_kind(levels: &[Level]) -> Option<(ValueKind, u8)> {
     let level = levels.last()?;
-    let (kind, _) = type_of_code(level.code)?;
-    Some((kind, level.code))
+    Some((kind_of_code(level.code)?, level.code))
 }
 
 // Appends a word, and the kind of the elements of the innermost array.

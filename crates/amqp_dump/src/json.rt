@@ -4,7 +4,7 @@ use crate::describe::is_in_array;
 use crate::fault::{Fault, Found};
 use crate::item::{Item, ItemKind};
 use crate::json_scalar::{add_scalar, push_escaped, push_payload};
-use crate::kinds::type_of_code;
+use crate::kinds::kind_of_code;
 use crate::level::{Level, LevelKind};
 use crate::line::push_hex;
 use crate::names;
@@ -190,7 +190,7 @@ impl Json {
 
     fn add_repeated(&mut self, count: u32, levels: &[Level]) -> Result<(), Fault> {
         let code = levels.last().map(|level| level.code).unwrap_or(0);
-        let Some((kind, _)) = type_of_code(code) else {
+        let Some(kind) = kind_of_code(code) else {
             return Ok(());
         };
         let text = &mut self.text;
@@ -224,7 +224,7 @@ fn push_element_kind(text: &mut String, levels: &[Level]) -> Result<(), Fault> {
     let Some(level) = levels.last() else {
         return Ok(());
     };
-    if let Some((kind, _)) = type_of_code(level.code) {
+    if let Some(kind) = kind_of_code(level.code) {
         let name = kind.name();
         write!(text, ",\"of\":\"{name}\"")?;
     }

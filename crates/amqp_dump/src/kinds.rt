@@ -1,22 +1,8 @@
-//! The format codes and the types that they encode.
+//! The types of values by their format codes.
 
 use amqp_value::ValueKind;
 
-/// What follows a format code.
-#[derive(Clone, Copy, Debug, PartialEq, Eq)]
-pub enum Shape {
-    /// A payload of this many bytes.
-    Fixed(u8),
-    /// A size and that many bytes. The size has four bytes if true, otherwise one.
-    Sized(bool),
-    /// A size, a count, each of four bytes if true and otherwise of one, and values.
-    Counted(bool),
-    /// A size, a count, a constructor and the payloads of the elements.
-    Array(bool),
-}
-
-/// Returns the type that a format code encodes and what follows the code, or `None` if no primitive
-/// type has it.
+/// Returns the type of the values with this format code, or `None` if no primitive type has it.
 ///
 /// # Encoding
 ///
@@ -24,73 +10,52 @@ pub enum Shape {
 ///
 /// # Example
 ///
-/// `0x52` gives `ValueKind::Uint` and `Shape::Fixed(1)`.
-pub fn type_of_code(code: u8) -> Option<(ValueKind, Shape)> {
-    match code {
-        0x40..=0x45 => kind_without_payload(code),
-        0x50..=0x98 => kind_of_fixed(code),
-        _ => kind_of_sized(code),
+/// `0x52` gives `ValueKind::Uint`.
+pub fn kind_of_code(code: u8) -> Option<ValueKind> {
+    let kind = match code {
+        0x40 => ValueKind::Null,
+        0x41 | 0x42 | 0x56 => ValueKind::Bool,
+        0x50 => ValueKind::Ubyte,
+        0x60 => ValueKind::Ushort,
+        0x43 | 0x52 | 0x70 => ValueKind::Uint,
+        0x44 | 0x53 | 0x80 => ValueKind::Ulong,
+        0x51 => ValueKind::Byte,
+        0x61 => ValueKind::Short,
+        0x54 | 0x71 => ValueKind::Int,
+        0x55 | 0x81 => ValueKind::Long,
+        0x72 => ValueKind::Float,
+        0x82 => ValueKind::Double,
+        0x74 => ValueKind::Decimal32,
+        0x84 => ValueKind::Decimal64,
+        0x94 => ValueKind::Decimal128,
+        0x73 => ValueKind::Char,
+        0x83 => ValueKind::Timestamp,
+        0x98 => ValueKind::Uuid,
+        0xa0 | 0xb0 => ValueKind::Binary,
+        0xa1 | 0xb1 => ValueKind::String,
+        0xa3 | 0xb3 => ValueKind::Symbol,
+        0x45 | 0xc0 | 0xd0 => ValueKind::List,
+        0xc1 | 0xd1 => ValueKind::Map,
+        0xe0 | 0xf0 => ValueKind::Array,
+        _ => return None,
+    };
+    Some(kind)
+}
+
+/// Returns the number of bytes of each payload with this format code, or `None` if the payload
+/// begins with its size.
+///
+/// # Encoding
+///
+/// The high four bits tell (AMQP 1.0 part 1, sections 1.2.1 to 1.2.4).
+pub(crate) fn fixed_width(code: u8) -> Option<u8> {
+    match code / 16 {
+        4 => Some(0),
+        5 => Some(1),
+        6 => Some(2),
+        7 => Some(4),
+        8 => Some(8),
+        9 => Some(16),
+        _ => None,
     }
-}
-
-// Returns the type of a code with no payload.
-fn kind_without_payload(code: u8) -> Option<(ValueKind, Shape)> {
-    let found = match code {
-        0x40 => (ValueKind::Null, Shape::Fixed(0)),
-        0x41 | 0x42 => (ValueKind::Bool, Shape::Fixed(0)),
-        0x43 => (ValueKind::Uint, Shape::Fixed(0)),
-        0x44 => (ValueKind::Ulong, Shape::Fixed(0)),
-        0x45 => (ValueKind::List, Shape::Fixed(0)),
-        _ => return None,
-    };
-    Some(found)
-}
-
-// Returns the type of a code with a payload of a fixed length.
-fn kind_of_fixed(code: u8) -> Option<(ValueKind, Shape)> {
-    let found = match code {
-        0x50 => (ValueKind::Ubyte, Shape::Fixed(1)),
-        0x51 => (ValueKind::Byte, Shape::Fixed(1)),
-        0x52 => (ValueKind::Uint, Shape::Fixed(1)),
-        0x53 => (ValueKind::Ulong, Shape::Fixed(1)),
-        0x54 => (ValueKind::Int, Shape::Fixed(1)),
-        0x55 => (ValueKind::Long, Shape::Fixed(1)),
-        0x56 => (ValueKind::Bool, Shape::Fixed(1)),
-        0x60 => (ValueKind::Ushort, Shape::Fixed(2)),
-        0x61 => (ValueKind::Short, Shape::Fixed(2)),
-        0x70 => (ValueKind::Uint, Shape::Fixed(4)),
-        0x71 => (ValueKind::Int, Shape::Fixed(4)),
-        0x72 => (ValueKind::Float, Shape::Fixed(4)),
-        0x73 => (ValueKind::Char, Shape::Fixed(4)),
-        0x74 => (ValueKind::Decimal32, Shape::Fixed(4)),
-        0x80 => (ValueKind::Ulong, Shape::Fixed(8)),
-        0x81 => (ValueKind::Long, Shape::Fixed(8)),
-        0x82 => (ValueKind::Double, Shape::Fixed(8)),
-        0x83 => (ValueKind::Timestamp, Shape::Fixed(8)),
-        0x84 => (ValueKind::Decimal64, Shape::Fixed(8)),
-        0x94 => (ValueKind::Decimal128, Shape::Fixed(16)),
-        0x98 => (ValueKind::Uuid, Shape::Fixed(16)),
-        _ => return None,
-    };
-    Some(found)
-}
-
-// Returns the type of a code with a size after it.
-fn kind_of_sized(code: u8) -> Option<(ValueKind, Shape)> {
-    let found = match code {
-        0xa0 => (ValueKind::Binary, Shape::Sized(false)),
-        0xa1 => (ValueKind::String, Shape::Sized(false)),
-        0xa3 => (ValueKind::Symbol, Shape::Sized(false)),
-        0xb0 => (ValueKind::Binary, Shape::Sized(true)),
-        0xb1 => (ValueKind::String, Shape::Sized(true)),
-        0xb3 => (ValueKind::Symbol, Shape::Sized(true)),
-        0xc0 => (ValueKind::List, Shape::Counted(false)),
-        0xc1 => (ValueKind::Map, Shape::Counted(false)),
-        0xd0 => (ValueKind::List, Shape::Counted(true)),
-        0xd1 => (ValueKind::Map, Shape::Counted(true)),
-        0xe0 => (ValueKind::Array, Shape::Array(false)),
-        0xf0 => (ValueKind::Array, Shape::Array(true)),
-        _ => return None,
-    };
-    Some(found)
 }

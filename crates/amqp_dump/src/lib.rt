@@ -37,7 +37,7 @@ pub use dumper::{Report, run};
 pub use fault::{Fault, Found};
 pub use hex_reader::HexReader;
 pub use item::{Item, ItemKind};
-pub use kinds::{Shape, type_of_code};
+pub use kinds::kind_of_code;
 pub use level::{Level, LevelKind};
 pub use options::{Options, OutputFormat};
 pub use scanner::{MAX_DEPTH, Scanner};

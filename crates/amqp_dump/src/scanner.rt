@@ -5,7 +5,7 @@ ghost use Rattle.amqp_dump.specs.Kept.{Stays};
 
 use crate::fault::Fault;
 use crate::item::{Item, ItemKind};
-use crate::kinds::{Shape, type_of_code};
+use crate::kinds::{fixed_width, kind_of_code};
 use crate::level::{Level, LevelKind};
 use crate::source::{Taking, take_byte, take_bytes};
 use amqp_value::ValueKind;
@@ -229,27 +229,31 @@ impl Scanner {
         ensures kept { Stays (S.held source.old) (S.left source.old) (S.held source.new)
             (S.left source.new) }
     {
-        match type_of_code(code) {
-            None => Err(Fault::FormatCode),
-            Some((ValueKind::List, Shape::Fixed(_))) => {
-                let level = self.compound(ValueKind::List, 0, source.at());
-                self.push(level)?;
-                Ok(ItemKind::Opens(ValueKind::List, 0, 0))
-            }
-            Some((kind, Shape::Fixed(width))) => {
-                self.need(source, u64::from(width))?;
-                let from = source.item_bytes().len();
-                take_bytes(source, usize::from(width))?;
-                self.check(source, kind, code, from)?;
-                if kind == ValueKind::Bool {
-                    self.note_more(code == 0x41 || source.item_bytes().ends_with(&[0x56, 1]));
-                }
-                Ok(ItemKind::Scalar(kind, code))
-            }
-            Some((kind, Shape::Sized(wide))) => self.take_sized(source, kind, code, wide),
-            Some((kind, Shape::Counted(wide))) => self.open_compound(source, kind, wide),
-            Some((_, Shape::Array(wide))) => self.open_array(source, wide),
+        let Some(kind) = kind_of_code(code) else {
+            return Err(Fault::FormatCode);
+        };
+        let Some(width) = fixed_width(code) else {
+            // The lowest of the high four bits tells whether sizes have four bytes.
+            let wide = code & 0x10 != 0;
+            return match kind {
+                ValueKind::List | ValueKind::Map => self.open_compound(source, kind, wide),
+                ValueKind::Array => self.open_array(source, wide),
+                _ => self.take_sized(source, kind, code, wide),
+            };
+        };
+        if kind == ValueKind::List {
+            let level = self.compound(kind, 0, source.at());
+            self.push(level)?;
+            return Ok(ItemKind::Opens(kind, 0, 0));
         }
+        self.need(source, u64::from(width))?;
+        let from = source.item_bytes().len();
+        take_bytes(source, usize::from(width))?;
+        self.check(source, kind, code, from)?;
+        if kind == ValueKind::Bool {
+            self.note_more(code == 0x41 || source.item_bytes().ends_with(&[0x56, 1]));
+        }
+        Ok(ItemKind::Scalar(kind, code))
     }
 
     // Takes a number of four bytes if `wide`, otherwise of one.
