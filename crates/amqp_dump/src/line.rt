@@ -15,7 +15,7 @@ pub(crate) enum Part {
     Bytes,
     /// The name of a field or a descriptor.
     Name,
-    /// The name of a kind.
+    /// The name of a type.
     Type,
     /// The text of a value.
     Text,

@@ -128,7 +128,7 @@ pub fn append_value<T: Serialize>(hints: Hints, out: Vec<u8>, value: &T) -> (boo
 ///
 /// # Memory
 /// Allocates from `alloc` only if the capacity of `out` or of `table` is too small: at most once
-/// for the bytes, and for a table of 8 bytes for each compound.
+/// for the bytes, and for a table of 8 bytes for each compound after the first.
 ///
 /// # Example
 /// For `true`, a buffer with the byte `40` then has `4041`.
@@ -174,8 +174,9 @@ pub fn append<T: Serialize>(
 /// Returns the errors of `to_vec`.
 ///
 /// # Memory
-/// Allocates from `alloc` a table of 8 bytes for each compound. If the capacity of `out` is too
-/// small, it grows once, as a `push` makes it grow, so that the cost of many calls is linear.
+/// Allocates from `alloc` a table of 8 bytes for each compound after the first. If the capacity of
+/// `out` is too small, it grows once, as a `push` makes it grow, so that the cost of many calls is
+/// linear.
 ///
 /// # Example
 /// For `true`, a vector with the byte `40` then has `4041`.
