@@ -1,7 +1,6 @@
 -- Lists of elements or pairs round-trip through compounds, and what is read from one kind of trees.
 use Rattle.std.proofs.Common.{◌≡◌, List, [], ◌∷◌, refl, sym, ap, ◌∙◌, subst}
 use Rattle.std.specs.List.{AllZip}
-use Rattle.std.specs.Prelude.{◌↔◌}
 use Rattle.amqp_ser.specs.Tree as tree
 use Rattle.amqp_ser.specs.Tree.{Tree, Trees, Pairs, Descriptor, trees_of}
 use Rattle.amqp_value.specs.TreeOf.{pairs_of}

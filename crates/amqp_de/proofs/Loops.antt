@@ -1,5 +1,5 @@
 -- Elements that are read in order.
-use Rattle.std.proofs.Common.{◌≡◌, ◌⊎◌, inl, inr, List, [], ◌∷◌, ◌++◌, map, Result, Ok, Err, IfOk, IfErr, refl, sym, ap, ◌∙◌, subst}
+use Rattle.std.proofs.Common.{◌≡◌, ◌⊎◌, inl, inr, List, [], ◌∷◌, ◌++◌, map, Result, Ok, Err, IfOk, IfErr, refl, sym, ap, subst}
 use Rattle.std.specs.List.{AllZip, AllByRecursion}
 use Rattle.amqp_de.specs.Reads.{Always}
 use Rattle.amqp_ser.specs.Tree.{Tree, Trees, Pairs, Scalar, scalar, trees_of, no_trees, more, no_pairs, pair}

@@ -1,11 +1,10 @@
 -- What is read from a map, from what is read from its keys and values.
-use Rattle.std.proofs.Common.{◌≡◌, Bool, true, false, true≢false, if◌then◌else◌, List, [], ◌∷◌, ◌++◌, map, refl, sym, ap, ◌∙◌, subst}
+use Rattle.std.proofs.Common.{◌≡◌, Bool, true, false, true≢false, if◌then◌else◌, List, [], ◌∷◌, map, refl, sym, ap, ◌∙◌, subst}
 use Rattle.std.specs.Bool.{OnTrue}
 use Rattle.std.specs.List.{AllZip, AllByRecursion}
 use Rattle.std.specs.Map.{keys_of}
 use Rattle.amqp_data.specs.Pairs.{insert_pair, LacksKey, AreDistinct}
 use Rattle.amqp_ser.specs.Same.{same_tree}
-use Rattle.amqp_ser.specs.Tree as tree
 use Rattle.amqp_ser.specs.Tree.{Tree, Scalar, scalar, pair}
 use Rattle.amqp_value.proofs.SameLemmas.{same-equal, same-itself}
 use Rattle.amqp_value.proofs.Sameness.{equal, equal-is_same}
@@ -14,7 +13,7 @@ use Rattle.amqp_value.specs.TreeOf.{pairs_of, tree_of}
 use Rattle.amqp_value.specs.declared.value.Value.{Value}
 use Rattle.amqp_de.specs.Results.{ReadsAndRestores}
 use Rattle.amqp_de.specs.Maps.{AreApart, OnMap, ReadsPair, ReadsPairs, pair_image, IsPair, SamePair, EachBefore}
-use Rattle.amqp_de.proofs.Lists.{entries_in_pairs, same_pairs}
+use Rattle.amqp_de.proofs.Lists.{is_map}
 
 -- Inserting a pair of trees.
 module _ (k v : Tree) (e : Tree × Tree) (es : List (Tree × Tree)) (rest : pairs_of (insert_pair same_tree es k v) ≡ insert_tree (pairs_of es) k v) where
@@ -85,6 +84,16 @@ module _ {K V : Type 0} (RK : Tree → K → Type 0) (imageK : K → Tree) (PK :
       let key : t.0 ≡ imageK x.0 = ap (λ (z : Tree × Tree). z.0) head in
       let value : t.1 ≡ imageV x.1 = ap (λ (z : Tree × Tree). z.1) head in
       ((zip.0.0.1 x.0 all.0.0 key, zip.0.1.1 x.1 all.0.1 value), pairs_same ts ps xs zip.1 all.1 tail)
+
+-- A map of these pairs, and what holds the entries that are read from them.
+module _ {K V M : Type 0} (R : Tree → K → Type 0) (Q : Tree → V → Type 0) (Holds : List (K × V) → M → Type 0) (m : M) (t : Tree) where
+  pub to_pairs : (xs : List (K × V)) → OnMap (λ ts. AllZip (ReadsPair R Q) ts xs) t → Holds xs m → OnMap (λ ts. ReadsPairs R Q Holds ts m) t
+  unfolding OnMap
+  to_pairs xs h holds = let (ps, is, zip) = is_map (λ ts. AllZip (ReadsPair R Q) ts xs) t h in subst (OnMap (λ ts. ReadsPairs R Q Holds ts m)) (sym is) (xs, zip, holds)
+
+  pub of_pairs : OnMap (λ ts. ReadsPairs R Q Holds ts m) t → (xs : List (K × V)) × OnMap (λ ts. AllZip (ReadsPair R Q) ts xs) t
+  unfolding OnMap
+  of_pairs h = let (ps, is, held) = is_map (λ ts. ReadsPairs R Q Holds ts m) t h in (held.0, subst (OnMap (λ ts. AllZip (ReadsPair R Q) ts held.0)) (sym is) held.1)
 
 -- A type that is read from scalars of one kind, and a test that holds for keys of the same content.
 module _ {T A : Type 0} (kind : A → Scalar) (told : (a b : A) → kind a ≡ kind b → a ≡ b) (content : T → A) (eq : T → T → Bool) (equal : (x y : T) → content x ≡ content y → eq x y ≡ true) where

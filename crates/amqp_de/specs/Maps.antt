@@ -1,9 +1,9 @@
 -- The trees that maps are read from: pairs of a key and a value, inserted in order
 -- (AMQP 1.0 part 1, section 1.6.23).
-use Rattle.std.specs.Prelude.{◌≡◌, Bool, false, List, [], ◌∷◌}
+use Rattle.std.specs.Prelude.{◌≡◌, Bool, false, List}
 use Rattle.std.specs.BTreeMap as tree
 use Rattle.std.specs.HashMap as hashed
-use Rattle.std.specs.List.{AllZip, AllByRecursion}
+use Rattle.std.specs.List.{AllZip}
 use Rattle.std.specs.List.Sorted.{IsPermutation}
 use Rattle.std.specs.declared.cmp.Ordering.{Ordering}
 use Rattle.std.specs.declared.cmp.Ordering.TheVariants.{Greater}

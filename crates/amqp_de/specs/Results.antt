@@ -1,5 +1,5 @@
 -- Results of reading from a source.
-use Rattle.std.specs.Prelude.{◌≡◌, ◌⊎◌, ◌==◌, ◌%◌, if◌then◌else◌, List, [], ◌∷◌, Result, Ok, Err, MatchResult}
+use Rattle.std.specs.Prelude.{◌≡◌, ◌⊎◌, ◌==◌, ◌%◌, if◌then◌else◌, Result, Ok, Err, MatchResult}
 use Rattle.amqp_ser.specs.Tree.{Tree, Descriptor}
 use Rattle.amqp_de.specs.declared.fault.Fault.{Fault}
 use Rattle.amqp_de.specs.declared.fault.FaultKind.{FaultKind}

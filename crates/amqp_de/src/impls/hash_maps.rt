@@ -9,7 +9,7 @@ ghost use Rattle.amqp_value.specs.TreeOf.{pairs_of};
 ghost use Rattle.amqp_de.specs.Maps.{OnMap, ReadsPairs, pair_image, IsPair, SamePair};
 ghost use Rattle.amqp_de.specs.Maps.{SameInSomeOrder, AreDistinct};
 
-use super::maps::{insert_all, read_certain};
+use super::maps::{insert_all, read_pairs};
 use crate::deserialize::Deserialize;
 use crate::fault::Fault;
 use crate::source::Source;
@@ -29,12 +29,8 @@ impl<K: Deserialize + Hash + Eq, V: Deserialize> Deserialize for HashMap<K, V> {
     ghost same = { SameInSomeOrder (SamePair K.same V.same) };
 
     fn read<S: Source>(alloc: Global, source: S) -> Result<(HashMap<K, V>, S::Rest), Fault> {
-        let (entries, rest) = match source.map() {
-            Ok(opened) => opened,
-            Err(fault) => return Err(fault),
-        };
-        let items = match read_certain::<K, V, S>(alloc, entries) {
-            Ok(items) => items,
+        let (items, rest) = match read_pairs::<K, V, S>(alloc, source) {
+            Ok(read) => read,
             Err(fault) => return Err(fault),
         };
         match insert_all::<K, V, HashMap<K, V>>(alloc, items) {

@@ -1,6 +1,7 @@
 //! Maps, whose keys and values are read in order.
 
 ghost use Rattle.std.specs.Prelude.{◌≡◌, ◌⊎◌, List, [], ◌∷◌, ◌++◌, IfOk, IfErr, IsTrue, map};
+ghost use Rattle.std.specs.Prelude.{MatchResult};
 ghost use Rattle.std.specs.Bool.{OnTrue};
 ghost use Rattle.std.specs.List.{AllZip, AllByRecursion};
 ghost use Rattle.std.specs.Map.{keys_of};
@@ -114,33 +115,36 @@ fn read_entries<K: Deserialize, V: Deserialize, S: Source>(
     }
 }
 
-// Reads all keys and values, of which it is certain that no key is repeated where a source may
-// repeat it.
+/// Reads the keys and values of a map, of which no key is repeated where a source may repeat it, and
+/// returns them with what is left.
 #[inline(always)]
-pub(super) fn read_certain<K: Deserialize, V: Deserialize, S: Source>(
+pub(super) fn read_pairs<K: Deserialize, V: Deserialize, S: Source>(
     alloc: Global,
-    entries: S::Entries,
-) -> Result<Vec<(K, V)>, Fault>
-    ensures ok { IfOk result (λ v. (ps : List (Tree × Tree))
-        × S.holds_pairs entries ps × S.apart (keys_of ps)
-        × AllZip (ReadsPair (ReadsAndRestores K.reads K.image K.restorable K.same)
-        (ReadsAndRestores V.reads V.image V.restorable V.same)) ps v.items) }
-    ensures err { IfErr result (λ e. S.pairs_whole entries → IsMemory e
-        ⊎ ((xs : List (K × V)) → ¬ AllZip (ReadsPair K.reads V.reads) (S.pairs entries) xs)) }
+    source: S,
+) -> Result<(Vec<(K, V)>, S::Rest), Fault>
+    ensures ok { IfOk result (λ r. S.left source r.1
+        × OnMap (λ ts. AllZip (ReadsPair K.reads V.reads) ts r.0.items) (S.value source)) }
+    ensures err { IfErr result (λ e. S.is_whole source → IsMemory e ⊎ ((xs : List (K × V)) →
+        ¬ OnMap (λ ts. AllZip (ReadsPair K.reads V.reads) ts xs) (S.value source))) }
     ensures law { (xs : List (K × V)) → AllByRecursion (IsPair K.restorable V.restorable) xs →
-        S.pairs entries ≡ map (pair_image K.image V.image) xs →
-        IfErr result (λ e. S.pairs_whole entries → IsMemory e) }
+        S.value source ≡ tree.map (pairs_of (map (pair_image K.image V.image) xs)) →
+        MatchResult result (λ r. AllZip (SamePair K.same V.same) r.0.items xs)
+        (λ e. S.is_whole source → IsMemory e) }
 {
+    let (entries, rest) = match source.map() {
+        Ok(opened) => opened,
+        Err(fault) => return Err(fault),
+    };
     let knows = S::knows_maps(&entries);
     let items = match read_entries::<K, V, S>(alloc, entries) {
         Ok(items) => items,
         Err(fault) => return Err(fault),
     };
     if knows {
-        return Ok(items);
+        return Ok((items, rest));
     }
     if K::have_distinct_trees(alloc, &items) {
-        Ok(items)
+        Ok((items, rest))
     } else {
         Err(Fault::gave_up())
     }
@@ -157,12 +161,8 @@ impl<K: Deserialize + Ord, V: Deserialize> Deserialize for BTreeMap<K, V> {
     ghost same = { λ m n. AllZip (SamePair K.same V.same) m.entries n.entries };
 
     fn read<S: Source>(alloc: Global, source: S) -> Result<(BTreeMap<K, V>, S::Rest), Fault> {
-        let (entries, rest) = match source.map() {
-            Ok(opened) => opened,
-            Err(fault) => return Err(fault),
-        };
-        let items = match read_certain::<K, V, S>(alloc, entries) {
-            Ok(items) => items,
+        let (items, rest) = match read_pairs::<K, V, S>(alloc, source) {
+            Ok(read) => read,
             Err(fault) => return Err(fault),
         };
         match insert_all::<K, V, BTreeMap<K, V>>(alloc, items) {
@@ -183,12 +183,8 @@ impl<K: Deserialize + Hash + Eq, V: Deserialize> Deserialize for OrderedMap<K, V
     ghost same = { λ m n. AllZip (SamePair K.same V.same) (entries_of m) (entries_of n) };
 
     fn read<S: Source>(alloc: Global, source: S) -> Result<(OrderedMap<K, V>, S::Rest), Fault> {
-        let (entries, rest) = match source.map() {
-            Ok(opened) => opened,
-            Err(fault) => return Err(fault),
-        };
-        let items = match read_certain::<K, V, S>(alloc, entries) {
-            Ok(items) => items,
+        let (items, rest) = match read_pairs::<K, V, S>(alloc, source) {
+            Ok(read) => read,
             Err(fault) => return Err(fault),
         };
         match once_each(alloc, items) {

@@ -1,32 +1,18 @@
-use Rattle.std.proofs.Common.{◌≡◌, false, inl, inr, map}
-use Rattle.amqp_de.specs.Maps.{pair_image}
+use Rattle.std.proofs.Common.{◌≡◌, false, inl, inr}
+use Rattle.std.specs.HashMap as hashed
 use Rattle.amqp_de.proofs.Inserted.{each_before}
-use Rattle.amqp_de.proofs.Lists.{is_map, to_map, of_map, one_map}
-use Rattle.amqp_de.proofs.MapReadings.{pairs_read, pairs_same}
+use Rattle.amqp_de.proofs.MapReadings.{of_pairs, to_pairs}
 use Rattle.amqp_de.proofs.impls.hash_maps.HashMapDeserialize.read.Goals as goal
 
 pub returns-in-Err-clause-read : goal.returns-in-Err-clause-read
 returns-in-Err-clause-read g c w =
     elim (c.in-Err.ensures.err w) [
       | inl m ↦ inl m
-      | inr n ↦ inr (λ x h. let is = is_map _ _ h in n is.0 is.1)
+      | inr none ↦ inr (λ m h. let (xs, on) = of_pairs g.K.Deserialize.reads g.V.Deserialize.reads (hashed.IsFromIterResult g.K.PartialEq.eq) m _ h in none xs on)
     ]
 
 pub returns-in-Err-clause-law : goal.returns-in-Err-clause-law
-returns-in-Err-clause-law g c x some e w = elim (c.in-Err.ensures.err w) [ inl m ↦ m | inr n ↦ absurd (n _ e) ]
-
-pub returns-in-Err-read_certain-clause-read : goal.returns-in-Err-read_certain-clause-read
-returns-in-Err-read_certain-clause-read g c w =
-    let (are, is) = c.in-Ok.ensures.whole w in
-    elim (c.in-Err-read_certain.ensures.err are) [
-      | inl m ↦ inl m
-      | inr none ↦ inr (λ m h. let (xs, zip, holds) = of_map _ _ _ is h in none xs zip)
-    ]
-
-pub returns-in-Err-read_certain-clause-law : goal.returns-in-Err-read_certain-clause-law
-returns-in-Err-read_certain-clause-law g c x some e w =
-    let (are, is) = c.in-Ok.ensures.whole w in
-    c.in-Err-read_certain.ensures.law x.entries some.0 (one_map _ _ (map (pair_image g.K.Deserialize.image g.V.Deserialize.image) x.entries) is e) are
+returns-in-Err-clause-law g c x some e w = c.in-Err.ensures.law x.entries some.0 e w
 
 pub returns-in-Err-insert_all-clause-read : goal.returns-in-Err-insert_all-clause-read
 returns-in-Err-insert_all-clause-read g c w = inl c.in-Err-insert_all.ensures.err
@@ -35,19 +21,10 @@ pub returns-in-Err-insert_all-clause-law : goal.returns-in-Err-insert_all-clause
 returns-in-Err-insert_all-clause-law g c x some e w = c.in-Err-insert_all.ensures.err
 
 pub returns-in-Ok-insert_all-clause-read : goal.returns-in-Ok-insert_all-clause-read
-returns-in-Ok-insert_all-clause-read g c =
-    let (ps, h, apart, zip) = c.in-Ok-read_certain.ensures.ok in
-    let (is, left) = c.in-Ok.ensures.ok ps h apart in
-    let holds = c.in-Ok-insert_all.ensures.ok in
-    (to_map _ _ ps is (c.in-Ok-read_certain.items.items, pairs_read g.K.Deserialize.reads g.K.Deserialize.image g.K.Deserialize.restorable g.K.Deserialize.same g.V.Deserialize.reads g.V.Deserialize.image g.V.Deserialize.restorable g.V.Deserialize.same ps _ zip, holds.0), left)
+returns-in-Ok-insert_all-clause-read g c = (to_pairs g.K.Deserialize.reads g.V.Deserialize.reads (hashed.IsFromIterResult g.K.PartialEq.eq) c.in-Ok-insert_all.map _ c.in-Ok.read.0.items c.in-Ok.ensures.ok.1 c.in-Ok-insert_all.ensures.ok.0, c.in-Ok.ensures.ok.0)
 
 pub returns-in-Ok-insert_all-clause-law : goal.returns-in-Ok-insert_all-clause-law
 returns-in-Ok-insert_all-clause-law g c x some e =
-    let K = g.K.Deserialize in
-    let V = g.V.Deserialize in
-    let (ps, h, apart, zip) = c.in-Ok-read_certain.ensures.ok in
-    let (is, left) = c.in-Ok.ensures.ok ps h apart in
-    let holds = c.in-Ok-insert_all.ensures.ok in
-    let items = c.in-Ok-read_certain.items.items in
-    let same = pairs_same K.reads K.image K.restorable K.same V.reads V.image V.restorable V.same ps items x.entries zip some.0 (one_map _ ps (map (pair_image K.image V.image) x.entries) is e) in
-    (items, holds.1 (each_before K.same V.same (λ k l. g.K.PartialEq.eq l k ≡ false) items x.entries same some.1), same)
+    let items = c.in-Ok.read.0.items in
+    let same = c.in-Ok.ensures.law x.entries some.0 e in
+    (items, c.in-Ok-insert_all.ensures.ok.1 (each_before g.K.Deserialize.same g.V.Deserialize.same (λ k l. g.K.PartialEq.eq l k ≡ false) items x.entries same some.1), same)
