@@ -8,6 +8,7 @@ ghost use Rattle.amqp_decode.specs.Codes.{primitive_of, shape_of_code};
 ghost use Rattle.amqp_decode.specs.WithoutBytes.{has_no_payload};
 
 use amqp_data::{EncodingCodes, Error};
+use amqp_frame::{Category, category_of};
 
 // Splits off the first `len` bytes.
 #[inline(always)]
@@ -60,7 +61,6 @@ fn read_sized(wide: bool, bytes: &[u8]) -> Result<(&[u8], &[u8]), Error>
 ///
 /// # Errors
 /// Returns `UnexpectedEof` if the bytes end before the payload does.
-#[tactic(auto, unfolding(amqp_frame::specs::Code::category))]
 #[inline(always)]
 pub fn read_payload(code: EncodingCodes, bytes: &[u8]) -> Result<(&[u8], &[u8]), Error>
     ensures ok { IfOk result (λ r.
@@ -68,14 +68,10 @@ pub fn read_payload(code: EncodingCodes, bytes: &[u8]) -> Result<(&[u8], &[u8]),
     ensures err { IfErr result (λ e. content_at (category (code_of code)) bytes.now ≡ None) }
     ensures eof { IfErr result (λ e. e ≡ Error.UnexpectedEof) }
 {
-    match u8::from(code) / 16 {
-        4 => cut_at(bytes, 0),
-        5 => cut_at(bytes, 1),
-        6 => cut_at(bytes, 2),
-        7 => cut_at(bytes, 4),
-        8 => cut_at(bytes, 8),
-        9 => cut_at(bytes, 16),
-        high => read_sized(high % 2 != 0, bytes),
+    match category_of(u8::from(code)) {
+        Category::Fixed(len) => cut_at(bytes, usize::from(len)),
+        Category::OneByteSize => read_sized(false, bytes),
+        Category::FourByteSize => read_sized(true, bytes),
     }
 }
 

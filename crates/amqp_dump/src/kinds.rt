@@ -41,21 +41,3 @@ pub fn kind_of_code(code: u8) -> Option<ValueKind> {
     };
     Some(kind)
 }
-
-/// Returns the number of bytes of each payload with this format code, or `None` if the payload
-/// begins with its size.
-///
-/// # Encoding
-///
-/// The high four bits tell (AMQP 1.0 part 1, sections 1.2.1 to 1.2.4).
-pub(crate) fn fixed_width(code: u8) -> Option<u8> {
-    match code / 16 {
-        4 => Some(0),
-        5 => Some(1),
-        6 => Some(2),
-        7 => Some(4),
-        8 => Some(8),
-        9 => Some(16),
-        _ => None,
-    }
-}

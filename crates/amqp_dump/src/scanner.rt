@@ -5,9 +5,10 @@ ghost use Rattle.amqp_dump.specs.Kept.{Stays};
 
 use crate::fault::Fault;
 use crate::item::{Item, ItemKind};
-use crate::kinds::{fixed_width, kind_of_code};
+use crate::kinds::kind_of_code;
 use crate::level::{Level, LevelKind};
 use crate::source::{Taking, take_byte, take_bytes};
+use amqp_frame::{Category, category_of};
 use amqp_value::ValueKind;
 use std::alloc::Global;
 
@@ -232,9 +233,9 @@ impl Scanner {
         let Some(kind) = kind_of_code(code) else {
             return Err(Fault::FormatCode);
         };
-        let Some(width) = fixed_width(code) else {
-            // The lowest of the high four bits tells whether sizes have four bytes.
-            let wide = code & 0x10 != 0;
+        let category = category_of(code);
+        let Category::Fixed(width) = category else {
+            let wide = category == Category::FourByteSize;
             return match kind {
                 ValueKind::List | ValueKind::Map => self.open_compound(source, kind, wide),
                 ValueKind::Array => self.open_array(source, wide),

@@ -35,6 +35,7 @@ pub fn is_primitive(code: u8) -> bool
 /// `70` gives `Fixed(4)`. `a1`, `c0` and `e0` give `OneByteSize`. `b1`, `d0` and `f0` give
 /// `FourByteSize`.
 #[tactic(auto, unfolding(crate::specs::Code::category))]
+#[inline(always)]
 pub fn category_of(code: u8) -> Category
     ensures { result ≡ category code }
 {

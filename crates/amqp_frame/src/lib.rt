@@ -14,6 +14,7 @@ mod read;
 mod readers;
 mod take_value;
 
+pub use code::{Category, category_of};
 pub use encoded_value::{frame_len, is_encoded_value};
 pub use lazy::LazyValue;
 pub use read::Read;
