@@ -48,8 +48,11 @@ fn bytes_of<const N: usize>(content: &[u8]) -> Result<[u8; N], Error>
     }
 }
 
-// Returns the content as a text, which must be UTF-8.
-fn text_of(alloc: Global, content: &[u8]) -> Result<String, Error>
+/// Returns the content as a text, which must be UTF-8.
+///
+/// # Errors
+/// Returns `InvalidValue` if it is not, and `OutOfMemory` if an allocation fails.
+pub(crate) fn text_of(alloc: Global, content: &[u8]) -> Result<String, Error>
     ensures ok { IfOk result (λ s. string_bytes s ≡ content.now) }
     ensures valid { IfOk result (λ s. is_utf8 content.now ≡ true) }
     ensures err { IfErr result (λ e. ¬ (e ≡ OutOfMemory) → is_utf8 content.now ≡ false) }
@@ -62,8 +65,12 @@ fn text_of(alloc: Global, content: &[u8]) -> Result<String, Error>
     }
 }
 
-// Returns the content as a binary.
-fn binary_of(alloc: Global, content: &[u8]) -> Result<Vec<u8>, Error>
+/// Returns the content as a binary.
+///
+/// # Errors
+/// Returns `OutOfMemory` if an allocation fails.
+#[inline(always)]
+pub(crate) fn binary_of(alloc: Global, content: &[u8]) -> Result<Vec<u8>, Error>
     ensures ok { IfOk result (λ v. v.items ≡ content.now) }
     ensures err { IfErr result (λ e. e ≡ OutOfMemory) }
 {

@@ -1,5 +1,6 @@
 //! The error of reading without an untyped value.
 
+use amqp_data::Error;
 use std::alloc::{AllocError, AllocFailed};
 
 /// Nothing was read: the bytes do not encode a value of the type, an allocation failed, or this way
@@ -18,6 +19,12 @@ impl From<AllocError> for GaveUp {
 
 impl<T: Drop> From<AllocFailed<T>> for GaveUp {
     fn from(_error: AllocFailed<T>) -> GaveUp {
+        GaveUp
+    }
+}
+
+impl From<Error> for GaveUp {
+    fn from(_error: Error) -> GaveUp {
         GaveUp
     }
 }

@@ -9,29 +9,9 @@ ghost use Rattle.amqp_decode.specs.Prefix.{IsScalar};
 
 use crate::prefix::compounds::split_sized;
 use crate::prefix::gave_up::GaveUp;
+use crate::scalar::{binary_of, text_of};
 use amqp_data::{ByteBuf, Symbol};
 use std::alloc::Global;
-
-// Copies a text, which must be UTF-8.
-fn text_of(alloc: Global, content: &[u8]) -> Result<String, GaveUp>
-    ensures text { IfOk result (λ s. string_bytes s ≡ content.now) }
-    ensures valid { IfOk result (λ s. is_utf8 content.now ≡ true) }
-{
-    match std::str::from_utf8(content) {
-        Ok(text) => Ok(String::from_str(alloc, text)?),
-        Err(_) => Err(GaveUp),
-    }
-}
-
-// Copies a binary.
-#[inline(always)]
-fn binary_of(alloc: Global, content: &[u8]) -> Result<ByteBuf, GaveUp>
-    ensures { IfOk result (λ b. byte_buf_bytes b ≡ content.now) }
-{
-    let mut bytes = Vec::new(alloc);
-    bytes.extend_from_slice(content)?;
-    Ok(ByteBuf::from(bytes))
-}
 
 /// Reads a binary.
 ///
@@ -46,12 +26,14 @@ pub fn read_binary(alloc: Global, code: u8, bytes: &[u8]) -> Result<(ByteBuf, &[
     match code {
         0xa0 => {
             let (content, rest) = split_sized(false, bytes)?;
-            let value = binary_of(alloc, content)?;
+            let copy = binary_of(alloc, content)?;
+            let value = ByteBuf::from(copy);
             Ok((value, rest))
         }
         0xb0 => {
             let (content, rest) = split_sized(true, bytes)?;
-            let value = binary_of(alloc, content)?;
+            let copy = binary_of(alloc, content)?;
+            let value = ByteBuf::from(copy);
             Ok((value, rest))
         }
         _ => Err(GaveUp),
