@@ -2,8 +2,7 @@
 use Rattle.std.proofs.Common.{◌≡◌, ◌⊎◌, inl, inr, ℕ, Bool, List, refl, sym, ap, ◌∙◌, subst}
 use Rattle.amqp_ser.specs.Tree as tree
 use Rattle.amqp_ser.specs.Tree.{Tree, Trees, Pairs, Scalar, trees_of}
-use Rattle.amqp_value.specs.TreeOf.{pairs_of}
-use Rattle.amqp_de.specs.Fields.{FieldSource, by_position, by_name, OnFields, OnEntries, OnNamed}
+use Rattle.amqp_de.specs.Fields.{FieldSource, by_position, OnFields, OnEntries, OnNamed}
 use Rattle.amqp_de.specs.Present.{IsImage, all_images, short_list, short_map}
 use Rattle.amqp_de.specs.SourceKinds.{source_kind_of, source_kind_of_scalar, HasSourceKind}
 use Rattle.amqp_de.specs.declared.source_kind.SourceKind.{SourceKind}

@@ -9,9 +9,10 @@ ghost use Rattle.amqp_de.specs.Composites.{IsCodeOrName};
 ghost use Rattle.amqp_de.specs.Composites.{IsAlternative, RestorableAlternative};
 ghost use Rattle.amqp_de.specs.Results.{Takes, BringsBranch};
 
-use crate::branches::{Either, Never};
+use crate::branches::{Branches, Either, Never, OneOf};
 use crate::composite::{Composite, is_descriptor_of};
 use crate::fault::Fault;
+use crate::seed::Seed;
 use crate::shape::Shape;
 use crate::source::Source;
 use amqp_data::Descriptor;
@@ -126,11 +127,35 @@ impl<A: Alternatives> Shape for OneOfTypes<A> {
     } };
 
     fn read_parts<S: Source>(self, alloc: Global, source: S) -> Result<(A, S::Rest), Fault> {
-        let (found, inner) = match source.described(alloc) {
-            Ok(opened) => opened,
-            Err(fault) => return Err(fault),
-        };
-        match A::read_after(alloc, &found, inner) {
+        match OneOf(self).read(alloc, source) {
+            Ok(read) => Ok(read),
+            Err(fault) => Err(fault),
+        }
+    }
+}
+
+impl<A: Alternatives> Branches for OneOfTypes<A> {
+    type Value = A;
+
+    ghost reads = { λ _. A.reads };
+
+    ghost label = { λ _ x. numbered (A.code_of x) };
+
+    ghost image = { λ _. A.image };
+
+    ghost restorable = { λ _. A.restorable };
+
+    ghost same = { λ _. A.same };
+
+    ghost fits = { λ _. Unit {0} };
+
+    fn read_after<S: Source>(
+        self,
+        alloc: Global,
+        descriptor: &Descriptor,
+        source: S,
+    ) -> Result<(A, S::Rest), Fault> {
+        match A::read_after(alloc, descriptor, source) {
             Ok(read) => Ok(read),
             Err(fault) => Err(fault),
         }

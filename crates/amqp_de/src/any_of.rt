@@ -51,7 +51,6 @@ where
         alloc: Global,
         source: S,
     ) -> Result<(F::Values, S::Rest), Fault> {
-        F::names_suffice();
         let AnyOf(ListOf(fields)) = self;
         read_any(alloc, fields, source)
     }
@@ -79,7 +78,6 @@ where
         alloc: Global,
         source: S,
     ) -> Result<(F::Values, S::Rest), Fault> {
-        F::names_suffice();
         let AnyOf(FullListOf(fields)) = self;
         read_any(alloc, fields, source)
     }
@@ -107,14 +105,13 @@ where
         alloc: Global,
         source: S,
     ) -> Result<(F::Values, S::Rest), Fault> {
-        F::names_suffice();
         let AnyOf(MapOf(fields)) = self;
         read_any(alloc, fields, source)
     }
 }
 
 // Reads fields from a list, an array or a map.
-fn read_any<F: FieldSeeds + Drop, S: Source>(
+fn read_any<F: NamedFields + Drop, S: Source>(
     alloc: Global,
     fields: F,
     source: S,
@@ -122,12 +119,13 @@ fn read_any<F: FieldSeeds + Drop, S: Source>(
 where
     F::Values: Drop,
     requires { distinct_names (F.names fields) ≡ true }
-    ensures read { Takes (λ t x. OnNamed (F.reads fields x) t) (S.value source) (S.is_whole source)
-        (S.left source) result }
+    ensures read { Takes (λ t x. OnNamed (F.reads_by_names (F.names fields) x) t)
+        (S.value source) (S.is_whole source) (S.left source) result }
     ensures law { (x : F.Values) → F.restorable x →
         IsImage (F.names fields) (F.images x) (S.value source) →
         MatchResult result (λ y. F.same y.0 x) (λ e. S.is_whole source → IsMemory e) }
 {
+    F::names_suffice();
     match source.source_kind() {
         SourceKind::Other => {
             let (value, rest) = match source.untyped(alloc) {

@@ -7,7 +7,7 @@ ghost use Rattle.amqp_decode.specs.Parsed.{parse, descriptor_at};
 ghost use Rattle.amqp_de.specs.Encodings.{Fills};
 
 use crate::fault::Fault;
-use crate::room::MAX_RESERVED;
+use crate::room::MAX_RESERVED_VALUES;
 use crate::scalar::Scalar;
 use amqp_data::Descriptor;
 use amqp_decode::prefix::{GaveUp, below, split_byte, split_descriptor, split_string};
@@ -106,7 +106,7 @@ pub(crate) fn list_scalars<K: Scalar>(
     ensures { IfOk result (λ v. (depth : ℕ) →
         Fills (λ t x. t ≡ scalar (K.content x)) (parse (suc depth)) count bytes.now v.items) }
 {
-    let room = (count as usize).min(bytes.len()).min(MAX_RESERVED);
+    let room = (count as usize).min(bytes.len()).min(MAX_RESERVED_VALUES);
     let Ok(mut items) = Vec::with_capacity(alloc, room) else {
         return Err(Fault::memory());
     };

@@ -6,13 +6,13 @@ use std::alloc::{AllocError, Global};
 use std::mem::size_of_val;
 
 /// The maximum number of values for which room is reserved.
-pub(crate) const MAX_RESERVED: usize = 256;
+pub(crate) const MAX_RESERVED_VALUES: usize = 256;
 
 /// The maximum number of values of this size for which room is reserved.
 #[inline(always)]
 pub(crate) fn max_reserved(size: usize) -> usize {
     match size {
-        0..=16 => MAX_RESERVED,
+        0..=16 => MAX_RESERVED_VALUES,
         17..=32 => 128,
         33..=64 => 64,
         65..=128 => 32,

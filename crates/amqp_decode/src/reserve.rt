@@ -5,7 +5,7 @@ ghost use Rattle.std.specs.Prelude.{◌≡◌, ◌<◌, ◌≤◌, length, OnOk,
 use std::alloc::AllocError;
 
 /// The largest number of elements that are reserved by a count. They take 2,048 bytes.
-const MAX_RESERVED: usize = 64;
+const MAX_RESERVED_ELEMENTS: usize = 64;
 
 /// The largest number of entries that are reserved by a count. They take 4,096 bytes.
 const MAX_RESERVED_ENTRIES: u32 = 64;
@@ -24,7 +24,7 @@ pub fn reserved(count: u32, body: &[u8], spare: usize) -> usize
     ensures few { length body.now < count → result ≤ 4 }
 {
     let most = (count as usize).min(body.len());
-    if most == count as usize && most <= MAX_RESERVED && most <= spare {
+    if most == count as usize && most <= MAX_RESERVED_ELEMENTS && most <= spare {
         most
     } else {
         most.min(MIN_RESERVED).min(spare)

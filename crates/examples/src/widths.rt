@@ -7,7 +7,7 @@
 mod hours;
 mod month;
 
-use hours::{Hour, Pressure, Series};
+use hours::{Hour, Pressure};
 use month::Month;
 use serde_amqp::value::{RoundTrip, round_trip};
 use serde_amqp::{Error, from_slice, to_vec};
@@ -17,7 +17,6 @@ use std::alloc::Global;
 pub fn print_lengths(rt: &impl Print, alloc: Global) -> Result<(), Error> {
     print_length(rt, alloc, &Pressure { pascals: 101_325 })?;
     print_length(rt, alloc, &new_hour(alloc)?)?;
-    print_length(rt, alloc, &new_series(alloc)?)?;
     print_length(rt, alloc, &new_month(alloc)?)
 }
 
@@ -45,31 +44,6 @@ fn new_hour(alloc: Global) -> Result<Hour, Error> {
         remark: Some(String::from_str(alloc, "fog")?),
         wind_from: None,
         wind_speed: None,
-    })
-}
-
-fn new_series(alloc: Global) -> Result<Series, Error> {
-    Ok(Series {
-        r1: 1,
-        r2: 2,
-        r3: String::from_str(alloc, "m")?,
-        r4: None,
-        r5: Some(5),
-        r6: Some(false),
-        r7: Some(-7),
-        r8: None,
-        r9: Some(9),
-        r10: None,
-        r11: None,
-        r12: Some(12),
-        r13: Some(true),
-        r14: None,
-        r15: Some(15),
-        r16: None,
-        r17: Some(String::from_str(alloc, "mm")?),
-        r18: None,
-        r19: None,
-        r20: Some(20),
     })
 }
 

@@ -8,14 +8,14 @@ ghost use Rattle.amqp_de.specs.Results.{IsMemory, ReadsAndRestores};
 
 use crate::deserialize::Deserialize;
 use crate::fault::Fault;
-use crate::room::MAX_RESERVED;
+use crate::room::MAX_RESERVED_VALUES;
 use crate::source::Source;
 use std::alloc::Global;
 
 /// Reads `count` elements, in order. A source may ignore further elements.
 ///
 /// # Memory
-/// Reserves memory for no more than `MAX_RESERVED` elements before they are read.
+/// Reserves memory for no more than `MAX_RESERVED_VALUES` elements before they are read.
 fn read_first<T: Deserialize, S: Source>(
     alloc: Global,
     elements: S::Elements,
@@ -29,7 +29,7 @@ fn read_first<T: Deserialize, S: Source>(
         S.items elements ≡ map T.image xs → IfErr result (λ e. S.are_whole elements → IsMemory e) }
 {
     let mut elements = elements;
-    let room = S::room(&elements).min(count).min(MAX_RESERVED);
+    let room = S::room(&elements).min(count).min(MAX_RESERVED_VALUES);
     let mut values = match Vec::with_capacity(alloc, room) {
         Ok(values) => values,
         Err(_) => return Err(Fault::memory()),

@@ -1,7 +1,6 @@
 //! Characters, timestamps and identifiers. Each type is read only from a value of its own kind.
 
 ghost use Rattle.std.specs.Prelude.{◌≡◌};
-ghost use Rattle.std.specs.Int.{w64, from_be_bytes, cast_signed};
 ghost use Rattle.amqp_data.specs.Fixed.{milliseconds_of, uuid_bytes};
 ghost use Rattle.amqp_ser.specs.Tree.{scalar, char, timestamp, uuid};
 
@@ -79,11 +78,7 @@ impl Scalar for Timestamp {
         count: u32,
         bytes: &[u8],
     ) -> Result<Vec<Timestamp>, GaveUp> {
-        if code != 0x83 {
-            return Err(GaveUp);
-        }
-        let items = read_numbers::<Timestamp, 8>(alloc, count, bytes)?;
-        Ok(items)
+        read_numbers::<Timestamp, 8, 0x83>(alloc, code, count, bytes)
     }
 }
 
@@ -109,13 +104,12 @@ impl Deserialize for Timestamp {
     }
 }
 
-impl Number<8> for Timestamp {
-    ghost is = { λ bs x. milliseconds_of x ≡ cast_signed w64 (from_be_bytes w64 bs) };
+#[tactic(auto, using(crate::proofs::Chunks::timestamp_payload))]
+impl Number<8, 0x83> for Timestamp {
+    ghost content = { λ x. timestamp (milliseconds_of x) };
 
     #[inline(always)]
-    fn from_payload(payload: &[u8; 8]) -> Timestamp
-        ensures { milliseconds_of result ≡ cast_signed w64 (from_be_bytes w64 payload.now) }
-    {
+    fn from_payload(payload: &[u8; 8]) -> Timestamp {
         Timestamp::from(i64::from_be_bytes(*payload))
     }
 }

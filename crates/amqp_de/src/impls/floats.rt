@@ -1,7 +1,6 @@
 //! Binary floating-point numbers, by their bits. Each is read only from a value of its own kind.
 
 ghost use Rattle.std.specs.Prelude.{◌≡◌};
-ghost use Rattle.std.specs.Int.{w32, w64, from_be_bytes};
 ghost use Rattle.amqp_data.specs.Fixed.{f32_bits, f64_bits};
 ghost use Rattle.amqp_ser.specs.Tree.{scalar, float, double};
 
@@ -40,11 +39,7 @@ impl Scalar for F32Bits {
         count: u32,
         bytes: &[u8],
     ) -> Result<Vec<F32Bits>, GaveUp> {
-        if code != 0x72 {
-            return Err(GaveUp);
-        }
-        let items = read_numbers::<F32Bits, 4>(alloc, count, bytes)?;
-        Ok(items)
+        read_numbers::<F32Bits, 4, 0x72>(alloc, code, count, bytes)
     }
 }
 
@@ -66,13 +61,12 @@ impl Deserialize for F32Bits {
     }
 }
 
-impl Number<4> for F32Bits {
-    ghost is = { λ bs x. f32_bits x ≡ from_be_bytes w32 bs };
+#[tactic(auto, using(crate::proofs::Chunks::float_payload))]
+impl Number<4, 0x72> for F32Bits {
+    ghost content = { λ x. float (f32_bits x) };
 
     #[inline(always)]
-    fn from_payload(payload: &[u8; 4]) -> F32Bits
-        ensures { f32_bits result ≡ from_be_bytes w32 payload.now }
-    {
+    fn from_payload(payload: &[u8; 4]) -> F32Bits {
         F32Bits::from(u32::from_be_bytes(*payload))
     }
 }
@@ -102,11 +96,7 @@ impl Scalar for F64Bits {
         count: u32,
         bytes: &[u8],
     ) -> Result<Vec<F64Bits>, GaveUp> {
-        if code != 0x82 {
-            return Err(GaveUp);
-        }
-        let items = read_numbers::<F64Bits, 8>(alloc, count, bytes)?;
-        Ok(items)
+        read_numbers::<F64Bits, 8, 0x82>(alloc, code, count, bytes)
     }
 }
 
@@ -128,13 +118,12 @@ impl Deserialize for F64Bits {
     }
 }
 
-impl Number<8> for F64Bits {
-    ghost is = { λ bs x. f64_bits x ≡ from_be_bytes w64 bs };
+#[tactic(auto, using(crate::proofs::Chunks::double_payload))]
+impl Number<8, 0x82> for F64Bits {
+    ghost content = { λ x. double (f64_bits x) };
 
     #[inline(always)]
-    fn from_payload(payload: &[u8; 8]) -> F64Bits
-        ensures { f64_bits result ≡ from_be_bytes w64 payload.now }
-    {
+    fn from_payload(payload: &[u8; 8]) -> F64Bits {
         F64Bits::from(u64::from_be_bytes(*payload))
     }
 }

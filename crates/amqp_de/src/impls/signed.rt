@@ -72,11 +72,7 @@ impl Scalar for i16 {
 
     #[inline(always)]
     fn from_payloads(alloc: Global, code: u8, count: u32, body: &[u8]) -> Result<Vec<i16>, GaveUp> {
-        if code != 0x61 {
-            return Err(GaveUp);
-        }
-        let items = read_numbers::<i16, 2>(alloc, count, body)?;
-        Ok(items)
+        read_numbers::<i16, 2, 0x61>(alloc, code, count, body)
     }
 }
 
@@ -120,11 +116,7 @@ impl Scalar for i32 {
 
     #[inline(always)]
     fn from_payloads(alloc: Global, code: u8, count: u32, body: &[u8]) -> Result<Vec<i32>, GaveUp> {
-        if code != 0x71 {
-            return Err(GaveUp);
-        }
-        let items = read_numbers::<i32, 4>(alloc, count, body)?;
-        Ok(items)
+        read_numbers::<i32, 4, 0x71>(alloc, code, count, body)
     }
 }
 
@@ -168,11 +160,7 @@ impl Scalar for i64 {
 
     #[inline(always)]
     fn from_payloads(alloc: Global, code: u8, count: u32, body: &[u8]) -> Result<Vec<i64>, GaveUp> {
-        if code != 0x81 {
-            return Err(GaveUp);
-        }
-        let items = read_numbers::<i64, 8>(alloc, count, body)?;
-        Ok(items)
+        read_numbers::<i64, 8, 0x81>(alloc, code, count, body)
     }
 }
 

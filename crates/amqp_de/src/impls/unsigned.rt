@@ -72,11 +72,7 @@ impl Scalar for u16 {
 
     #[inline(always)]
     fn from_payloads(alloc: Global, code: u8, count: u32, body: &[u8]) -> Result<Vec<u16>, GaveUp> {
-        if code != 0x60 {
-            return Err(GaveUp);
-        }
-        let items = read_numbers::<u16, 2>(alloc, count, body)?;
-        Ok(items)
+        read_numbers::<u16, 2, 0x60>(alloc, code, count, body)
     }
 }
 
@@ -120,11 +116,7 @@ impl Scalar for u32 {
 
     #[inline(always)]
     fn from_payloads(alloc: Global, code: u8, count: u32, body: &[u8]) -> Result<Vec<u32>, GaveUp> {
-        if code != 0x70 {
-            return Err(GaveUp);
-        }
-        let items = read_numbers::<u32, 4>(alloc, count, body)?;
-        Ok(items)
+        read_numbers::<u32, 4, 0x70>(alloc, code, count, body)
     }
 }
 
@@ -168,11 +160,7 @@ impl Scalar for u64 {
 
     #[inline(always)]
     fn from_payloads(alloc: Global, code: u8, count: u32, body: &[u8]) -> Result<Vec<u64>, GaveUp> {
-        if code != 0x80 {
-            return Err(GaveUp);
-        }
-        let items = read_numbers::<u64, 8>(alloc, count, body)?;
-        Ok(items)
+        read_numbers::<u64, 8, 0x80>(alloc, code, count, body)
     }
 }
 

@@ -1,4 +1,4 @@
-//! Structs of one, nine and twenty fields, required, optional and with defaults.
+//! Structs of one and nine fields, required, optional and with defaults.
 
 mod derived;
 
@@ -34,32 +34,4 @@ pub struct Hour {
     pub wind_from: Option<u16>,
     /// The speed of the wind, in metres per hour.
     pub wind_speed: Option<u32>,
-}
-
-/// Twenty readings of one instrument, the third with a unit; the first three are always there.
-// amqp: encoding = "list", code = 0x32
-#[derive(Debug, PartialEq, Drop)]
-pub struct Series {
-    pub r1: u32,
-    pub r2: u32,
-    pub r3: String,
-    pub r4: Option<u32>,
-    pub r5: Option<u64>,
-    pub r6: Option<bool>,
-    pub r7: Option<i8>,
-    // amqp: default = 7
-    pub r8: Option<u8>,
-    pub r9: Option<u32>,
-    pub r10: Option<String>,
-    pub r11: Option<u32>,
-    pub r12: Option<u64>,
-    pub r13: Option<bool>,
-    pub r14: Option<i16>,
-    // amqp: default = 7
-    pub r15: Option<u8>,
-    pub r16: Option<u32>,
-    pub r17: Option<String>,
-    pub r18: Option<u32>,
-    pub r19: Option<u32>,
-    pub r20: Option<u32>,
 }

@@ -3,7 +3,7 @@
 ghost use Rattle.std.specs.Prelude.{◌≡◌, None, false, codes};
 ghost use Rattle.serde_amqp.specs.Derive.{value_or, ◌▸◌, by_parts, tree_by_parts, after_code};
 
-use super::{Hour, Pressure, Series};
+use super::{Hour, Pressure};
 use serde_amqp::derive::{
     AfterCode, Composite, Fault, Global, ListOf, Optional, Readable, Record, Required,
     RoundTripComposite, RoundTripReadable, Serialize, SerializeCompounds, Serializer, Shape,
@@ -126,83 +126,5 @@ impl Hour {
         ensures { result ≡ value_or false self.now.is_raining }
     {
         self.is_raining.unwrap_or(false)
-    }
-}
-
-type SeriesFields = Required<u32, Required<u32, Required<String, Optional<u32, SeriesFields2>>>>;
-
-type SeriesFields2 = Optional<u64, Optional<bool, Optional<i8, Optional<u8, SeriesFields3>>>>;
-
-type SeriesFields3 = Optional<u32, Optional<String, Optional<u32, Optional<u64, SeriesFields4>>>>;
-
-type SeriesFields4 = Optional<bool, Optional<i16, Optional<u8, Optional<u32, SeriesFields5>>>>;
-
-type SeriesFields5 = Optional<String, Optional<u32, Optional<u32, Optional<u32, ()>>>>;
-
-type SeriesShape = AfterCode<ListOf<SeriesFields>, 0x32>;
-
-impl Record for Series {
-    type Values = <SeriesShape as Shape>::Value;
-
-    ghost parts = { λ x. x.r1 ▸ x.r2 ▸ x.r3 ▸ x.r4 ▸ x.r5 ▸ x.r6 ▸ x.r7 ▸ x.r8 ▸ x.r9 ▸ x.r10 ▸
-        x.r11 ▸ x.r12 ▸ x.r13 ▸ x.r14 ▸ x.r15 ▸ x.r16 ▸ x.r17 ▸ x.r18 ▸ x.r19 ▸ x.r20 ▸ tt };
-
-    fn from_parts(values: <SeriesShape as Shape>::Value) -> Series {
-        built! { values => Series {
-            r1, r2, r3, r4, r5, r6, r7, r8, r9, r10, r11, r12, r13, r14, r15, r16, r17, r18, r19,
-            r20
-        } }
-    }
-}
-
-impl Readable for Series {
-    ghost laws = { by_parts ⟦<SeriesShape as Shape>⟧.laws ⟦<Series as Record>⟧.parts };
-
-    #[inline(always)]
-    fn read_value<S: Source>(alloc: Global, source: S) -> Result<(Series, S::Rest), Fault> {
-        let fields = named! {
-            "r1", "r2", "r3", "r4"?, "r5"?, "r6"?, "r7"?, "r8"?, "r9"?, "r10"?, "r11"?, "r12"?,
-            "r13"?, "r14"?, "r15"?, "r16"?, "r17"?, "r18"?, "r19"?, "r20"?
-        };
-        read_shaped(alloc, source, AfterCode::<_, 0x32>(ListOf(fields)))
-    }
-}
-
-impl Serialize for Series {
-    ghost tree = { tree_by_parts ⟦<SeriesShape as ShapeTree>⟧.tree ⟦<Series as Record>⟧.parts };
-
-    fn serialize<S: Serializer>(&self, serializer: &mut S) -> Result<S::Ok, S::Error> {
-        serializer.serialize_described(
-            &0x32u64,
-            &ListOf(fields! {
-                "r1": &self.r1, "r2": &self.r2, "r3": &self.r3, "r4"?: &self.r4, "r5"?: &self.r5,
-                "r6"?: &self.r6, "r7"?: &self.r7, "r8"?: &self.r8, "r9"?: &self.r9,
-                "r10"?: &self.r10, "r11"?: &self.r11, "r12"?: &self.r12, "r13"?: &self.r13,
-                "r14"?: &self.r14, "r15"?: &self.r15, "r16"?: &self.r16, "r17"?: &self.r17,
-                "r18"?: &self.r18, "r19"?: &self.r19, "r20"?: &self.r20
-            }),
-        )
-    }
-}
-
-impl RoundTripReadable for Series {
-    fn readable_law() {
-        parts_return::<Series, SeriesShape>();
-    }
-}
-
-impl Series {
-    /// Returns `r8`, or `7` if it is absent.
-    pub fn r8_or_default(&self) -> u8
-        ensures { result ≡ value_or 7 self.now.r8 }
-    {
-        self.r8.unwrap_or(7)
-    }
-
-    /// Returns `r15`, or `7` if it is absent.
-    pub fn r15_or_default(&self) -> u8
-        ensures { result ≡ value_or 7 self.now.r15 }
-    {
-        self.r15.unwrap_or(7)
     }
 }
