@@ -43,11 +43,16 @@ pub fn command<'a>(alloc: Global) -> Result<Command<'a>, Error> {
     with_limits(alloc, command)
 }
 
+fn option<'a>(alloc: Global, name: &'a str, help: &'a str) -> Arg<'a> {
+    Arg::new(alloc, name).long(name).help(help)
+}
+
 fn flag<'a>(alloc: Global, name: &'a str, help: &'a str) -> Arg<'a> {
-    Arg::new(alloc, name)
-        .long(name)
-        .action(ArgAction::SetTrue)
-        .help(help)
+    option(alloc, name, help).action(ArgAction::SetTrue)
+}
+
+fn with_value<'a>(alloc: Global, name: &'a str, value: &'a str, help: &'a str) -> Arg<'a> {
+    option(alloc, name, help).value_name(value)
 }
 
 // Adds the forms of output.
@@ -71,34 +76,37 @@ fn with_forms<'a>(alloc: Global, command: Command<'a>) -> Result<Command<'a>, Er
 
 // Adds the limits and the colors.
 fn with_limits<'a>(alloc: Global, command: Command<'a>) -> Result<Command<'a>, Error> {
-    let select = Arg::new(alloc, "select")
-        .long("select")
-        .value_name("PATH")
-        .help("Show only what is there, as 0x73.message-id or /2/0");
-    let summary = flag(alloc, "summary", "End with counts by kind, depth and size");
-    let depth = Arg::new(alloc, "max-depth")
-        .long("max-depth")
-        .value_name("N")
-        .value_parser(value_parser!(u32))
-        .help("In a tree, show no line of more than N levels");
-    let bytes = Arg::new(alloc, "max-bytes")
-        .long("max-bytes")
-        .value_name("N")
-        .value_parser(value_parser!(u32))
-        .help("In a tree, show at most N bytes of a line and of a payload");
-    let limit = Arg::new(alloc, "limit")
-        .long("limit")
-        .value_name("N")
-        .value_parser(value_parser!(u64))
-        .help("Read at most N values or frames");
-    let color = Arg::new(alloc, "color")
-        .long("color")
-        .value_name("WHEN")
-        .value_parser(["auto", "always", "never"].as_slice())
-        .default_value("auto")
-        .help("Write colors");
-    let command = command.arg(select)?.arg(summary)?.arg(depth)?;
-    Ok(command.arg(bytes)?.arg(limit)?.arg(color)?)
+    let command = command
+        .arg(with_value(
+            alloc,
+            "select",
+            "PATH",
+            "Show only what is there, as 0x73.message-id or /2/0",
+        ))?
+        .arg(flag(alloc, "summary", "End with counts by kind, depth and size"))?
+        .arg(with_value(
+            alloc,
+            "max-depth",
+            "N",
+            "In a tree, show no line of more than N levels",
+        )
+        .value_parser(value_parser!(u32)))?
+        .arg(with_value(
+            alloc,
+            "max-bytes",
+            "N",
+            "In a tree, show at most N bytes of a line and of a payload",
+        )
+        .value_parser(value_parser!(u32)))?
+        .arg(with_value(alloc, "limit", "N", "Read at most N values or frames").value_parser(
+            value_parser!(u64),
+        ))?
+        .arg(
+            with_value(alloc, "color", "WHEN", "Write colors")
+                .value_parser(["auto", "always", "never"].as_slice())
+                .default_value("auto"),
+        )?;
+    Ok(command)
 }
 
 /// Returns what the arguments ask for.

@@ -94,21 +94,29 @@ fn print_section(rt: &impl Print, alloc: Global, section: &LazyValue) -> Result<
 
 // Returns the message: its sections in the order of AMQP 1.0 part 3, section 3.2.
 fn new_order(alloc: Global) -> Result<TransparentVec<Section>, Error> {
-    let mut entries = OrderedMap::new(alloc);
-    drop(entries.insert(String::from_str(alloc, "retries")?, 3)?);
     let mut sections = Vec::new(alloc);
     sections.push(Section::Header(Header {
         durable: Some(true),
         priority: Some(4),
         ttl: None,
     }))?;
-    sections.push(Section::Properties(Properties {
-        message_id: Some(7),
-        user_id: None,
-        to: Some(String::from_str(alloc, "orders")?),
-        subject: None,
-    }))?;
-    sections.push(Section::ApplicationProperties(entries))?;
+    sections.push(addressed_to(alloc, "orders")?)?;
+    sections.push(with_retries(alloc, 3)?)?;
     sections.push(Section::Body(String::from_str(alloc, "Hello, World!")?))?;
     Ok(TransparentVec::new(sections))
+}
+
+fn addressed_to(alloc: Global, address: &str) -> Result<Section, Error> {
+    Ok(Section::Properties(Properties {
+        message_id: Some(7),
+        user_id: None,
+        to: Some(String::from_str(alloc, address)?),
+        subject: None,
+    }))
+}
+
+fn with_retries(alloc: Global, retries: i32) -> Result<Section, Error> {
+    let mut entries = OrderedMap::new(alloc);
+    drop(entries.insert(String::from_str(alloc, "retries")?, retries)?);
+    Ok(Section::ApplicationProperties(entries))
 }
