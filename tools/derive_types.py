@@ -2,30 +2,19 @@
 
 import re
 
-STRUCT_ENCODINGS = ("list", "map", "basic")
-ENUM_ENCODINGS = ("described", "restricted", "scalar", "index")
-SOURCES = ("bool", "u8", "u16", "u32", "u64", "String", "Symbol")
-FLAGS = ("full", "by_name", "map_key", "others", "new", "no_round_trip", "write_only", "read_only")
-KEYS = ("encoding", "code", "name", "rename_all", "source", "values")
+from derive_annotations import ENUM_ENCODINGS, STRUCT_ENCODINGS, RENAMES, Wrong, annotation, number_of, settings, split, text_of
+
 DEFAULTED = ("bool", "u8", "u16", "u32", "u64")
 # what to write in place of a type that AMQP does not have
 INSTEAD = {
     "f32": "`F32Bits`", "f64": "`F64Bits`", "usize": "`u32` or `u64`", "isize": "`i32` or `i64`", "u128": "`u64`, or `Uuid`",
-    "i128": "`i64`, or `Dec128`", "str": "`String`"}
+    "i128": "`i64`, or `Dec128`", "str": "`String`", "Instant": "`Timestamp`", "SystemTime": "`Timestamp`", "Duration": "`u64`",
+    "HashSet": "`Vec`", "BTreeSet": "`Vec`", "VecDeque": "`Vec`", "IndexMap": "`OrderedMap`", "Rc": "`Box`", "Arc": "`Box`", "Cow": "`String`"}
 PRIMITIVE = ("bool", "char", "u8", "u16", "u32", "u64", "i8", "i16", "i32", "i64")
-MOST_PLAIN = 255
 SCALARS = DEFAULTED + ("i8", "i16", "i32", "i64", "char", "F32Bits", "F64Bits", "Dec32", "Dec64", "Dec128", "Timestamp", "Uuid", "ByteBuf", "String", "Symbol")
 NO_ROUND_TRIP = ("HashMap", "LazyValue")
 RESERVED = set("""data record deriving module where use mod pub package open as unfoldable abbrev axiom unfold unfolding
     ruleset mutual infix infixl infixr elim let in do""".split())
-
-
-class Wrong(Exception):
-    """An annotation that is refused: its line, and what was expected."""
-
-    def __init__(self, line, message):
-        super().__init__(message)
-        self.line = line
 
 
 class Field:
@@ -82,57 +71,13 @@ class Type:
         return f"(code {self.code})" if self.code else f'(name (codes "{self.symbol}"))' if self.symbol else ""
 
 
-def split(text):
-    """The parts of the text between commas that are in no bracket."""
-    parts, depth, start = [], 0, 0
-    for at, char in enumerate(text):
-        depth += char in "<([{"
-        depth -= char in ")]}" or char == ">" and text[at - 1:at] not in ("-", "=")
-        if char == "," and depth == 0:
-            parts.append(text[start:at])
-            start = at + 1
-    return [part.strip() for part in parts + [text[start:]] if part.strip()]
-
-
-def words_of(name):
-    return [w.lower() for w in re.findall(r"[A-Z]+(?![a-z])|[A-Z]?[a-z0-9]+", name)]
-
-
-RENAMES = {
-    "kebab-case": lambda name: "-".join(words_of(name)),
-    "snake_case": lambda name: "_".join(words_of(name)),
-    "lowercase": lambda name: "".join(words_of(name)),
-    "camelCase": lambda name: "".join(w.capitalize() if at else w for at, w in enumerate(words_of(name))),
-    "PascalCase": lambda name: "".join(w.capitalize() for w in words_of(name)),
-    "SCREAMING_SNAKE_CASE": lambda name: "_".join(words_of(name)).upper(),
-}
-
-
-def code_of(line, text):
-    """The number of a code: 0x73, 115, or "0x0000_0000:0x0000_0073", the domain and the number in it."""
-    text = text.strip('"')
-    if not re.fullmatch(r"(0x[0-9a-fA-F_]+|\d[\d_]*)(:(0x[0-9a-fA-F_]+|\d[\d_]*))?", text):
-        raise Wrong(line, f'code = {text} is no number, such as 0x73 or "0x0000_0000:0x0000_0073"')
-    high, _, low = text.rpartition(":")
-    number = int(high.replace("_", "") or "0", 0) << 32 | int(low.replace("_", ""), 0)
-    if number >= 1 << 64:
-        raise Wrong(line, f"code = {text} is more than a ulong")
-    return f"{number:#04x}"
-
-
-def settings(line, text, keys, flags):
-    """The settings `key = value` and the flags of an annotation."""
-    said, set_ = {}, set()
-    for part in split(text):
-        key, equals, value = (p.strip() for p in part.partition("="))
-        if equals and key in keys and key not in said:
-            said[key] = value
-        elif not equals and part in flags:
-            set_.add(part)
-        else:
-            known = ", ".join([f"{k} = .." for k in keys] + list(flags))
-            raise Wrong(line, f"`{part}` is not one of {known}" if key not in said else f"`{key}` is set twice")
-    return said, set_
+def places_of(text, parts):
+    """Where the parts are in the text."""
+    at = 0
+    for part in parts:
+        at = text.index(part, at)
+        yield at
+        at += len(part)
 
 
 def type_of(line, name, text):
@@ -145,64 +90,6 @@ def type_of(line, name, text):
         raise Wrong(line, f"{name}: `{text}` is a reference: write the type itself, such as `ByteBuf` for `&[u8]`")
     # as the module of the impls, which is one level down, names it
     return re.sub(r"(?<![\w:])(super|self)::", lambda it: "super::super::" if it.group(1) == "super" else "super::", text)
-
-
-def number_of(line, what, type_, text):
-    """A number of this type, as it is printed."""
-    number = text.replace("_", "")
-    if not re.fullmatch("true|false" if type_ == "bool" else r"\d+", number) or type_ != "bool" and int(number) >= 1 << int(type_[1:]):
-        raise Wrong(line, f"{what} = {text} is no {type_}")
-    return number if type_ == "bool" else str(int(number))
-
-
-def text_of(line, said, key):
-    if key in said:
-        if not re.fullmatch(r'"[^"\\]*"', said[key]):
-            raise Wrong(line, f'{key} = {said[key]} is no text in quotation marks')
-        said[key] = said[key].strip('"')
-
-
-def annotation(line, text):
-    said, flags = settings(line, text, KEYS, FLAGS)
-    for key in ("encoding", "name", "rename_all", "source"):
-        text_of(line, said, key)
-    known = ", ".join(STRUCT_ENCODINGS) + " (structs), " + ", ".join(ENUM_ENCODINGS) + " (enums)"
-    encoding = said.get("encoding")
-    if encoding not in STRUCT_ENCODINGS + ENUM_ENCODINGS:
-        raise Wrong(line, f'encoding = "{encoding}" is not one of {known}' if encoding else f"expected encoding = .., one of {known}")
-    if "code" in said:
-        said["code"] = code_of(line, said["code"])
-    if encoding in ENUM_ENCODINGS and ("code" in said or "name" in said):
-        raise Wrong(line, f'encoding = "{encoding}" has no descriptor of its own')
-    if said.get("rename_all", "snake_case") not in RENAMES:
-        raise Wrong(line, f'rename_all = "{said["rename_all"]}" is not one of {", ".join(RENAMES)}')
-    if (encoding == "restricted") != ("source" in said and "values" in said):
-        raise Wrong(line, 'source = .. and values = [..] belong to encoding = "restricted", which needs both')
-    if encoding == "restricted":
-        if said["source"] not in SOURCES:
-            raise Wrong(line, f'source = "{said["source"]}" is not one of {", ".join(SOURCES)}')
-        said["values"] = values_of(line, said["source"], said["values"])
-    if encoding == "map" and "full" in flags:
-        raise Wrong(line, "a map is written without absent fields: `full` is for a list")
-    if "others" in flags and encoding != "described":
-        raise Wrong(line, 'others is for encoding = "described"')
-    if {"write_only", "read_only"} <= flags:
-        raise Wrong(line, "a type is either write_only or read_only")
-    return said, flags
-
-
-def values_of(line, source, text):
-    values = split(text[1:-1]) if text.startswith("[") and text.endswith("]") else []
-    texts = source in ("String", "Symbol")
-    if not values or texts and not all(re.fullmatch(r'"[^"\\]*"', value) for value in values):
-        raise Wrong(line, f"values = {text} is no list of values of type {source}, in brackets")
-    if not texts:
-        values = [number_of(line, "values: a value", source, value) for value in values]
-    elif wrong := next((value for value in values if not value.isascii() or len(value) > MOST_PLAIN + 2), None):
-        raise Wrong(line, f"values: {wrong} is no text of at most {MOST_PLAIN} characters of ASCII")
-    if len(set(values)) != len(values):
-        raise Wrong(line, f"values = {text} has a value twice")
-    return values
 
 
 HEAD = re.compile(r"(?:\s*(?:#\[[^\n]*\]|//[^\n]*)\n|\s*\n)*\s*(?:pub(?:\([^)]*\))?\s+)?(struct|enum)\s+(\w+)(\s*<)?\s*([({;]?)")
@@ -221,16 +108,25 @@ def body_of(text, line):
     return marked
 
 
-def fields_of(t, text, is_tuple):
-    """The fields in the text of a struct's or a variant's body."""
-    fields = []
+OWN = re.compile(r"@(\d+) (\w*)@\s*")
+
+
+def fields_of(t, text, is_tuple, start):
+    """The fields in the text of a struct's or a variant's body, which begins at a line."""
+    fields, at = [], 0
     for place, part in enumerate(split(text)):
-        own = re.match(r"@(\d+) (\w*)@\s*", part)
-        line, said, flags = t.line, {}, set()
+        at = text.index(part, at)
+        own, said, flags, own_line = OWN.match(part), {}, set(), 0
         if own:
-            line, part = int(own.group(1)), part[own.end():]
-            said, flags = settings(line, bytes.fromhex(own.group(2)).decode(), ("name", "default"), ("default",))
-            text_of(line, said, "name")
+            own_line, at, part = int(own.group(1)), at + own.end(), part[own.end():]
+            said, flags = settings(own_line, bytes.fromhex(own.group(2)).decode(), ("name", "default"), ("default",))
+            text_of(own_line, said, "name")
+        line = start + text[:at].count("\n")
+        if inside := OWN.search(part):
+            raise Wrong(int(inside.group(1)), "an annotation is on the line above its field")
+        if own and not part:
+            raise Wrong(own_line, "this annotation is above no field")
+        at += len(part)
         member, colon, type_ = (str(place), ":", part) if is_tuple else re.sub(r"^pub(\([^)]*\))?\s+", "", part).partition(":")
         if not re.fullmatch(r"\w+", member.strip()) or not type_.strip():
             raise Wrong(line, f"{t.name}: `{part}` is no field: expected `name: type`")
@@ -239,27 +135,27 @@ def fields_of(t, text, is_tuple):
         field = Field(line, member, f"part{place}" if is_tuple else member, name, type_)
         if "default" in said or flags:
             if field.inner not in DEFAULTED:
-                raise Wrong(line, f"{t.name}.{member}: default is for {', '.join(DEFAULTED)} or an Option of one")
+                raise Wrong(own_line, f"{t.name}.{member}: default is for {', '.join(DEFAULTED)} or an Option of one")
             default = said.get("default", "false" if field.inner == "bool" else "0")
-            field.default = number_of(line, f"{t.name}.{member}: default", field.inner, default)
+            field.default = number_of(own_line, f"{t.name}.{member}: default", field.inner, default)
         fields.append(field)
     return fields
 
 
-def variant_of(t, part, value):
+def variant_of(t, part, value, line):
     form = re.fullmatch(r"(\w+)\s*(?:([({])(.*)[)}])?", part.strip(), re.S)
     if not form:
         said = re.match(r"@(\d+)", part.strip())
         raise Wrong(int(said.group(1)) if said else t.line, f"{t.name}: an annotation is for a type or a field" if said else f"{t.name}: `{part.strip()}` is no variant")
     name, opens, inside = form.groups()
-    fields = fields_of(t, inside, opens == "(") if opens else []
+    fields = fields_of(t, inside, opens == "(", line + part[:form.start(3)].count("\n")) if opens else []
     kind = "unit" if not opens else "struct" if opens == "{" else "newtype" if len(fields) == 1 else "tuple"
     if t.encoding == "restricted" and kind != "unit":
         raise Wrong(t.line, f"{t.name}::{name}: a variant of a restricted type holds nothing")
     if t.encoding in ("described", "scalar") and kind != "newtype":
         raise Wrong(t.line, f'{t.name}::{name}: a variant of encoding = "{t.encoding}" holds one value')
     if t.encoding == "scalar" and fields[0].type not in SCALARS:
-        raise Wrong(t.line, f"{t.name}::{name}: {fields[0].type} is no scalar")
+        raise Wrong(fields[0].line, f"{t.name}::{name}: {fields[0].type} is no scalar")
     return Variant(name, kind, fields, value)
 
 
@@ -282,7 +178,7 @@ def check(t):
         raise Wrong(line, 'map_key is for encoding = "scalar", and for "basic" without a descriptor')
     for f in t.fields + [f for v in t.variants for f in v.fields]:
         if t.round_trips and any(re.search(rf"\b{name}\b", f.type) for name in NO_ROUND_TRIP):
-            raise Wrong(line, f"{n}: {f.type} does not round-trip: add no_round_trip")
+            raise Wrong(f.line, f"{n}: {f.type} does not round-trip: add no_round_trip")
 
 
 def type_at(number, text, said, flags):
@@ -303,9 +199,10 @@ def type_at(number, text, said, flags):
         parts = split(body)
         if t.values and len(t.values) != len(parts):
             raise Wrong(number, f"{name} has {len(parts)} variants and {len(t.values)} values")
-        t.variants = [variant_of(t, part, t.values and t.values[at]) for at, part in enumerate(parts)]
+        lines = [start + body[:at].count("\n") for at in places_of(body, parts)]
+        t.variants = [variant_of(t, part, t.values and t.values[at], lines[at]) for at, part in enumerate(parts)]
     else:
-        t.fields = fields_of(t, body, t.is_tuple)
+        t.fields = fields_of(t, body, t.is_tuple, start)
     check(t)
     return t, start + body.count("\n")
 
