@@ -87,7 +87,8 @@ impl Json {
         self.text.push_str(before)?;
         self.comma = false;
         if let Some(field) = level.and_then(field_of) {
-            write!(self.text, "\"field\":\"{field}\",")?;
+            let name = field.name;
+            write!(self.text, "\"field\":\"{name}\",")?;
         }
         Ok(())
     }
