@@ -24,4 +24,5 @@ mod skip;
 pub use decode::{decode_value, decode_value_limited, decode_value_to_depth};
 pub use located::{
     Located, Place, decode_value_limited_located, decode_value_located, fault_place,
+    fault_place_to_depth,
 };

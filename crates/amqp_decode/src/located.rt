@@ -137,11 +137,28 @@ pub fn fault_place(bytes: &[u8]) -> Option<Place>
     ensures err { OnSome result ((t : Tree) → ¬ Encodes 256 bytes.now t) }
     ensures place { IfSome result (λ p. IsPlace p 256 bytes.now) }
 {
-    match check_values(1, bytes, 256, 0) {
+    fault_place_to_depth(bytes, 256)
+}
+
+/// Returns where bytes that are not one encoded value with at most `depth` levels have their first
+/// fault, and `None` if they are one.
+///
+/// # Memory
+/// Allocates nothing.
+///
+/// # Example
+/// With a depth of 1, `None` for `40`, and offset 3 at depth 1 for `c0020140`.
+pub fn fault_place_to_depth(bytes: &[u8], depth: u16) -> Option<Place>
+    requires { depth ≤ 256 }
+    ensures none { IfNone result ((t : Tree) × Encodes depth bytes.now t) }
+    ensures err { OnSome result ((t : Tree) → ¬ Encodes depth bytes.now t) }
+    ensures place { IfSome result (λ p. IsPlace p depth bytes.now) }
+{
+    match check_values(1, bytes, depth, 0) {
         Ok(()) => None,
         Err(from_end) => Some(Place {
             offset: bytes.len().saturating_sub(from_end.left),
-            depth: 256u16.saturating_sub(from_end.levels),
+            depth: depth.saturating_sub(from_end.levels),
         }),
     }
 }

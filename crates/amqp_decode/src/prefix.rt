@@ -14,6 +14,7 @@ mod values;
 
 pub use compounds::{
     below, split_array, split_byte, split_bytes, split_described, split_list, split_map,
+    split_number, split_sized,
 };
 pub use gave_up::GaveUp;
 pub use integers::{

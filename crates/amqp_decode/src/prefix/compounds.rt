@@ -160,9 +160,15 @@ pub fn split_bytes<const N: usize>(bytes: &[u8]) -> Result<([u8; N], &[u8]), Gav
     }
 }
 
-/// Reads a number of four bytes if `wide`, otherwise of one byte.
+/// Splits off a number of four bytes if `wide`, otherwise of one byte.
+///
+/// # Encoding
+/// Sizes and counts of payloads have this form (AMQP 1.0 part 1, section 1.2).
+///
+/// # Example
+/// From `0540`, returns 5 and the rest `40` if not `wide`.
 #[inline(always)]
-pub(crate) fn split_number(wide: bool, bytes: &[u8]) -> Result<(u32, &[u8]), GaveUp>
+pub fn split_number(wide: bool, bytes: &[u8]) -> Result<(u32, &[u8]), GaveUp>
     ensures { IfOk result (λ r. number_at wide bytes.now ≡ Some (r.0, r.1.now)) }
 {
     if wide {
@@ -178,10 +184,18 @@ pub(crate) fn split_number(wide: bool, bytes: &[u8]) -> Result<(u32, &[u8]), Gav
     }
 }
 
-/// Reads a size and that many bytes.
+/// Splits off a size of four bytes if `wide`, otherwise of one byte, and returns as many bytes as
+/// it says with the bytes that are left.
+///
+/// # Encoding
+/// Payloads of variable width and of compounds have this form (AMQP 1.0 part 1, sections 1.2.2 and
+/// 1.2.3).
+///
+/// # Example
+/// From `01ff40`, returns `ff` and the rest `40` if not `wide`.
 #[tactic(auto, unfolding(crate::specs::Parsed::sized_at))]
 #[inline(always)]
-pub(crate) fn split_sized(wide: bool, bytes: &[u8]) -> Result<(&[u8], &[u8]), GaveUp>
+pub fn split_sized(wide: bool, bytes: &[u8]) -> Result<(&[u8], &[u8]), GaveUp>
     ensures { IfOk result (λ r. sized_at wide bytes.now ≡ Some (r.0.now, r.1.now)) }
 {
     let (len, rest) = split_number(wide, bytes)?;

@@ -1,8 +1,0 @@
-use Rattle.amqp_decode.proofs.PlaceLemmas.{no-value, one-value}
-use Rattle.amqp_decode.proofs.located.fault_place.Goals as goal
-
-pub returns-in-Ok-clause-none : goal.returns-in-Ok-clause-none
-returns-in-Ok-clause-none c = one-value 256 c.args.bytes.now c.in-Ok.ensures.ok
-
-pub returns-in-Err-clause-err : goal.returns-in-Err-clause-err
-returns-in-Err-clause-err c = no-value 256 c.args.bytes.now c.in-Err.ensures.err
