@@ -5,20 +5,18 @@ ghost use Rattle.serde_amqp.specs.Derive.{value_or, ◌▸◌, by_parts, after_c
 
 use super::{Flow, OrderedMap, Symbol, Value};
 use serde_amqp::derive::{
-    Composite, Fault, Global, ListOf, Optional, Record, Required, RoundTripComposite, Serialize,
-    SerializeCompounds, Serializer, Shape, ShapeTree, Source, built, composite_returns, fields,
-    named, read_shaped,
+    Composite, Fault, FourFields, Global, ListOf, Of, OneField, Record, RoundTripComposite,
+    Serialize, SerializeCompounds, Serializer, Shape, ShapeTree, Source, built, composite_returns,
+    fields, named, read_shaped,
 };
 
-type FlowFields = Optional<u32, Required<u32, Required<u32, Required<u32, FlowFields2>>>>;
+type FlowShape = ListOf<FourFields<Option<u32>, Of<u32>, Of<u32>, Of<u32>, Row>>;
 
-type FlowFields2 = Optional<u32, Optional<u32, Optional<u32, Optional<u32, FlowFields3>>>>;
+type Row = FourFields<Option<u32>, Option<u32>, Option<u32>, Option<u32>, Row2>;
 
-type FlowFields3 = Optional<bool, Optional<bool, FlowFields4>>;
+type Row2 = OneField<Option<bool>, OneField<Option<bool>, Row3>>;
 
-type FlowFields4 = Optional<OrderedMap<Symbol, Value>, ()>;
-
-type FlowShape = ListOf<FlowFields>;
+type Row3 = OneField<Option<OrderedMap<Symbol, Value>>, ()>;
 
 impl Record for Flow {
     type Values = <FlowShape as Shape>::Value;

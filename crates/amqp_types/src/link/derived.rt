@@ -8,26 +8,24 @@ use super::{
     SenderSettleMode, Source, Symbol, Value,
 };
 use serde_amqp::derive::{
-    Composite, Fault, Global, ListOf, Optional, Record, Required, RoundTripComposite, Serialize,
-    SerializeCompounds, Serializer, Shape, ShapeTree, built, composite_returns, fields, named,
-    read_shaped,
+    Composite, Fault, FourFields, Global, ListOf, Of, OneField, Record, RoundTripComposite,
+    Serialize, SerializeCompounds, Serializer, Shape, ShapeTree, built, composite_returns, fields,
+    named, read_shaped,
 };
 
-type AttachFields = Required<String, Required<u32, Required<Role, AttachFields2>>>;
+type AttachShape = ListOf<Row>;
 
-type AttachFields2 = Optional<SenderSettleMode, Optional<ReceiverSettleMode, AttachFields3>>;
+type Row = FourFields<Of<String>, Of<u32>, Of<Role>, Option<SenderSettleMode>, Row2>;
 
-type AttachFields3 = Optional<Source, Optional<AnyTarget, AttachFields4>>;
+type Row2 = FourFields<Kind2, Option<Source>, Option<AnyTarget>, Kind, Row3>;
 
-type AttachFields4 = Optional<OrderedMap<ByteBuf, Option<DeliveryState>>, AttachFields5>;
+type Row3 = FourFields<Option<bool>, Option<u32>, Option<u64>, Option<Multiple<Symbol>>, Row4>;
 
-type AttachFields5 = Optional<bool, Optional<u32, Optional<u64, AttachFields6>>>;
+type Row4 = OneField<Option<Multiple<Symbol>>, OneField<Option<OrderedMap<Symbol, Value>>, ()>>;
 
-type AttachFields6 = Optional<Multiple<Symbol>, Optional<Multiple<Symbol>, AttachFields7>>;
+type Kind = Option<OrderedMap<ByteBuf, Option<DeliveryState>>>;
 
-type AttachFields7 = Optional<OrderedMap<Symbol, Value>, ()>;
-
-type AttachShape = ListOf<AttachFields>;
+type Kind2 = Option<ReceiverSettleMode>;
 
 impl Record for Attach {
     type Values = <AttachShape as Shape>::Value;

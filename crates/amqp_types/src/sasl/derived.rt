@@ -5,14 +5,12 @@ ghost use Rattle.serde_amqp.specs.Derive.{◌▸◌, by_parts, after_code};
 
 use super::{ByteBuf, Multiple, SaslChallenge, SaslInit, SaslMechanisms, SaslResponse, Symbol};
 use serde_amqp::derive::{
-    Composite, Fault, Global, ListOf, Optional, Record, Required, RoundTripComposite, Serialize,
+    Composite, Fault, Global, ListOf, Of, OneField, Record, RoundTripComposite, Serialize,
     SerializeCompounds, Serializer, Shape, ShapeTree, Source, built, composite_returns, fields,
     named, read_shaped,
 };
 
-type SaslMechanismsFields = Required<Multiple<Symbol>, ()>;
-
-type SaslMechanismsShape = ListOf<SaslMechanismsFields>;
+type SaslMechanismsShape = ListOf<OneField<Of<Multiple<Symbol>>, ()>>;
 
 impl Record for SaslMechanisms {
     type Values = <SaslMechanismsShape as Shape>::Value;
@@ -72,9 +70,9 @@ impl SaslMechanisms {
     }
 }
 
-type SaslInitFields = Required<Symbol, Optional<ByteBuf, Optional<String, ()>>>;
+type SaslInitShape = ListOf<OneField<Of<Symbol>, OneField<Option<ByteBuf>, Row>>>;
 
-type SaslInitShape = ListOf<SaslInitFields>;
+type Row = OneField<Option<String>, ()>;
 
 impl Record for SaslInit {
     type Values = <SaslInitShape as Shape>::Value;
@@ -138,9 +136,7 @@ impl SaslInit {
     }
 }
 
-type SaslChallengeFields = Required<ByteBuf, ()>;
-
-type SaslChallengeShape = ListOf<SaslChallengeFields>;
+type SaslChallengeShape = ListOf<OneField<Of<ByteBuf>, ()>>;
 
 impl Record for SaslChallenge {
     type Values = <SaslChallengeShape as Shape>::Value;
@@ -195,9 +191,7 @@ impl SaslChallenge {
     }
 }
 
-type SaslResponseFields = Required<ByteBuf, ()>;
-
-type SaslResponseShape = ListOf<SaslResponseFields>;
+type SaslResponseShape = ListOf<OneField<Of<ByteBuf>, ()>>;
 
 impl Record for SaslResponse {
     type Values = <SaslResponseShape as Shape>::Value;
