@@ -29,13 +29,13 @@ def field_aliases(first, before, after, fields):
             N.kinds[longest] = N.new(N.kind)
             out.append(f"type {N.kinds[longest]} = {longest};\n")
             kinds[at:at + 4] = [N.kinds.get(it, it) for it in kinds[at:at + 4]]
-    steps = [*(row(kinds[at:at + 4]) for at in range(0, rows, 4)), *(f"{N.OneField}<{it}, " for it in kinds[rows:])]
+    steps = [*(row(kinds[at:at + 4]) for at in range(0, rows, 4)), *(f"{N.One}<{it}, " for it in kinds[rows:])]
     return [*aliases(first, before, after, N.row, steps, "()"), *out]
 
 
 def row(kinds):
     """The type of four fields before that of the fields after them."""
-    return f"{N.FourFields}<{', '.join(kinds)}, "
+    return f"{N.Four}<{', '.join(kinds)}, "
 
 
 def kind(f):

@@ -7,12 +7,12 @@ use super::{
     Accepted, AmqpError, Modified, OrderedMap, Received, Rejected, Released, Symbol, Value,
 };
 use serde_amqp::derive::{
-    Composite, Fault, Global, ListOf, Of, OneField, Record, RoundTripComposite, Serialize,
+    Composite, Fault, Global, ListOf, Of, One, Record, RoundTripComposite, Serialize,
     SerializeCompounds, Serializer, Shape, ShapeTree, Source, built, composite_returns, fields,
     named, read_shaped,
 };
 
-type ReceivedShape = ListOf<OneField<Of<u32>, OneField<Of<u64>, ()>>>;
+type ReceivedShape = ListOf<One<Of<u32>, One<Of<u64>, ()>>>;
 
 impl Record for Received {
     type Values = <ReceivedShape as Shape>::Value;
@@ -118,7 +118,7 @@ impl RoundTripComposite for Accepted {
     }
 }
 
-type RejectedShape = ListOf<OneField<Option<AmqpError>, ()>>;
+type RejectedShape = ListOf<One<Option<AmqpError>, ()>>;
 
 impl Record for Rejected {
     type Values = <RejectedShape as Shape>::Value;
@@ -207,9 +207,9 @@ impl RoundTripComposite for Released {
     }
 }
 
-type ModifiedShape = ListOf<OneField<Option<bool>, OneField<Option<bool>, Row>>>;
+type ModifiedShape = ListOf<One<Option<bool>, One<Option<bool>, Row>>>;
 
-type Row = OneField<Option<OrderedMap<Symbol, Value>>, ()>;
+type Row = One<Option<OrderedMap<Symbol, Value>>, ()>;
 
 impl Record for Modified {
     type Values = <ModifiedShape as Shape>::Value;

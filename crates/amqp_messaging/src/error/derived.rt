@@ -5,14 +5,14 @@ ghost use Rattle.serde_amqp.specs.Derive.{◌▸◌, by_parts, after_code};
 
 use super::{AmqpError, OrderedMap, Symbol, Value};
 use serde_amqp::derive::{
-    Composite, Fault, Global, ListOf, Of, OneField, Record, RoundTripComposite, Serialize,
+    Composite, Fault, Global, ListOf, Of, One, Record, RoundTripComposite, Serialize,
     SerializeCompounds, Serializer, Shape, ShapeTree, Source, built, composite_returns, fields,
     named, read_shaped,
 };
 
-type AmqpErrorShape = ListOf<OneField<Of<Symbol>, OneField<Option<String>, Row>>>;
+type AmqpErrorShape = ListOf<One<Of<Symbol>, One<Option<String>, Row>>>;
 
-type Row = OneField<Option<OrderedMap<Symbol, Value>>, ()>;
+type Row = One<Option<OrderedMap<Symbol, Value>>, ()>;
 
 impl Record for AmqpError {
     type Values = <AmqpErrorShape as Shape>::Value;

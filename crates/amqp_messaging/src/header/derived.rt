@@ -5,14 +5,14 @@ ghost use Rattle.serde_amqp.specs.Derive.{value_or, ◌▸◌, by_parts, after_c
 
 use super::Header;
 use serde_amqp::derive::{
-    Composite, Fault, FourFields, Global, ListOf, OneField, Record, RoundTripComposite, Serialize,
+    Composite, Fault, Four, Global, ListOf, One, Record, RoundTripComposite, Serialize,
     SerializeCompounds, Serializer, Shape, ShapeTree, Source, built, composite_returns, fields,
     named, read_shaped,
 };
 
-type HeaderShape = ListOf<FourFields<Option<bool>, Option<u8>, Option<u32>, Option<bool>, Row>>;
+type HeaderShape = ListOf<Four<Option<bool>, Option<u8>, Option<u32>, Option<bool>, Row>>;
 
-type Row = OneField<Option<u32>, ()>;
+type Row = One<Option<u32>, ()>;
 
 impl Record for Header {
     type Values = <HeaderShape as Shape>::Value;

@@ -5,22 +5,20 @@ ghost use Rattle.serde_amqp.specs.Derive.{◌▸◌, by_parts, after_code};
 
 use super::{Address, ByteBuf, MessageId, Properties, Symbol, Timestamp};
 use serde_amqp::derive::{
-    Composite, Fault, FourFields, Global, ListOf, OneField, Record, RoundTripComposite, Serialize,
+    Composite, Fault, Four, Global, ListOf, One, Record, RoundTripComposite, Serialize,
     SerializeCompounds, Serializer, Shape, ShapeTree, Source, built, composite_returns, fields,
     named, read_shaped,
 };
 
 type PropertiesShape = ListOf<Row>;
 
-type Row = FourFields<Kind, Option<ByteBuf>, Option<Address>, Option<String>, Row2>;
+type Row = Four<Option<MessageId>, Option<ByteBuf>, Option<Address>, Option<String>, Row2>;
 
-type Row2 = FourFields<Option<Address>, Kind, Option<Symbol>, Option<Symbol>, Row3>;
+type Row2 = Four<Option<Address>, Option<MessageId>, Option<Symbol>, Option<Symbol>, Row3>;
 
-type Row3 = FourFields<Option<Timestamp>, Option<Timestamp>, Option<String>, Option<u32>, Row4>;
+type Row3 = Four<Option<Timestamp>, Option<Timestamp>, Option<String>, Option<u32>, Row4>;
 
-type Row4 = OneField<Option<String>, ()>;
-
-type Kind = Option<MessageId>;
+type Row4 = One<Option<String>, ()>;
 
 impl Record for Properties {
     type Values = <PropertiesShape as Shape>::Value;

@@ -9,10 +9,9 @@ use super::{
     TransactionalState, Unknown,
 };
 use serde_amqp::derive::{
-    Composite, Either, Fault, Global, ListOf, Of, OneField, OneOfTypes, PhantomData, Readable,
-    Record, RoundTripComposite, RoundTripReadable, Serialize, SerializeCompounds, Serializer,
-    Shape, ShapeTree, Source, built, composite_returns, fields, named, parts_return, place,
-    read_shaped,
+    Composite, Either, Fault, Global, ListOf, Of, One, OneOfTypes, PhantomData, Readable, Record,
+    RoundTripComposite, RoundTripReadable, Serialize, SerializeCompounds, Serializer, Shape,
+    ShapeTree, Source, built, composite_returns, fields, named, parts_return, place, read_shaped,
 };
 
 type OutcomeShape = OneOfTypes<Either<Accepted, Either<Rejected, OutcomeTypes>>>;
@@ -75,7 +74,7 @@ impl RoundTripReadable for Outcome {
     }
 }
 
-type TransactionalStateShape = ListOf<OneField<Of<ByteBuf>, OneField<Option<Outcome>, ()>>>;
+type TransactionalStateShape = ListOf<One<Of<ByteBuf>, One<Option<Outcome>, ()>>>;
 
 impl Record for TransactionalState {
     type Values = <TransactionalStateShape as Shape>::Value;

@@ -5,12 +5,12 @@ ghost use Rattle.serde_amqp.specs.Derive.{◌▸◌, by_parts, after_code};
 
 use super::{ByteBuf, Declare, Declared, Discharge, Value};
 use serde_amqp::derive::{
-    Composite, Fault, Global, ListOf, Of, OneField, Record, RoundTripComposite, Serialize,
+    Composite, Fault, Global, ListOf, Of, One, Record, RoundTripComposite, Serialize,
     SerializeCompounds, Serializer, Shape, ShapeTree, Source, built, composite_returns, fields,
     named, read_shaped,
 };
 
-type DeclareShape = ListOf<OneField<Option<Value>, ()>>;
+type DeclareShape = ListOf<One<Option<Value>, ()>>;
 
 impl Record for Declare {
     type Values = <DeclareShape as Shape>::Value;
@@ -54,7 +54,7 @@ impl RoundTripComposite for Declare {
     }
 }
 
-type DischargeShape = ListOf<OneField<Of<ByteBuf>, OneField<Option<bool>, ()>>>;
+type DischargeShape = ListOf<One<Of<ByteBuf>, One<Option<bool>, ()>>>;
 
 impl Record for Discharge {
     type Values = <DischargeShape as Shape>::Value;
@@ -111,7 +111,7 @@ impl Discharge {
     }
 }
 
-type DeclaredShape = ListOf<OneField<Of<ByteBuf>, ()>>;
+type DeclaredShape = ListOf<One<Of<ByteBuf>, ()>>;
 
 impl Record for Declared {
     type Values = <DeclaredShape as Shape>::Value;

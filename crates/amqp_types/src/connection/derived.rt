@@ -5,16 +5,16 @@ ghost use Rattle.serde_amqp.specs.Derive.{value_or, ◌▸◌, by_parts, after_c
 
 use super::{Multiple, Open, OrderedMap, Symbol, Value};
 use serde_amqp::derive::{
-    Composite, Fault, FourFields, Global, ListOf, Of, OneField, Record, RoundTripComposite,
-    Serialize, SerializeCompounds, Serializer, Shape, ShapeTree, Source, built, composite_returns,
-    fields, named, read_shaped,
+    Composite, Fault, Four, Global, ListOf, Of, One, Record, RoundTripComposite, Serialize,
+    SerializeCompounds, Serializer, Shape, ShapeTree, Source, built, composite_returns, fields,
+    named, read_shaped,
 };
 
-type OpenShape = ListOf<FourFields<Of<String>, Option<String>, Option<u32>, Option<u16>, Row>>;
+type OpenShape = ListOf<Four<Of<String>, Option<String>, Option<u32>, Option<u16>, Row>>;
 
-type Row = FourFields<Option<u32>, Kind, Kind, Kind, OneField<Option<Multiple<Symbol>>, Row2>>;
+type Row = Four<Option<u32>, Kind, Kind, Kind, One<Option<Multiple<Symbol>>, Row2>>;
 
-type Row2 = OneField<Option<OrderedMap<Symbol, Value>>, ()>;
+type Row2 = One<Option<OrderedMap<Symbol, Value>>, ()>;
 
 type Kind = Option<Multiple<Symbol>>;
 

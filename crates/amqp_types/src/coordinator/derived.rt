@@ -6,13 +6,13 @@ ghost use Rattle.serde_amqp.specs.Derive.{after_code, first, second};
 
 use super::{AnyTarget, Coordinator, Multiple, Symbol, Target, TxnCapability};
 use serde_amqp::derive::{
-    Composite, Either, Fault, Global, ListOf, Name, Never, OneField, OneOfTypes, PhantomData,
-    Readable, Record, RoundTripComposite, RoundTripReadable, Serialize, SerializeCompounds,
-    Serializer, Shape, ShapeTree, Source, ValueKind, built, composite_returns, fields, named,
-    parts_return, place, read_shaped, read_symbol,
+    Composite, Either, Fault, Global, ListOf, Name, Never, One, OneOfTypes, PhantomData, Readable,
+    Record, RoundTripComposite, RoundTripReadable, Serialize, SerializeCompounds, Serializer,
+    Shape, ShapeTree, Source, ValueKind, built, composite_returns, fields, named, parts_return,
+    place, read_shaped, read_symbol,
 };
 
-type CoordinatorShape = ListOf<OneField<Option<Multiple<Symbol>>, ()>>;
+type CoordinatorShape = ListOf<One<Option<Multiple<Symbol>>, ()>>;
 
 impl Record for Coordinator {
     type Values = <CoordinatorShape as Shape>::Value;

@@ -5,14 +5,12 @@ ghost use Rattle.serde_amqp.specs.Derive.{value_or, ◌▸◌, by_parts, after_c
 
 use super::{AmqpError, Close, Detach, End};
 use serde_amqp::derive::{
-    Composite, Fault, Global, ListOf, Of, OneField, Record, RoundTripComposite, Serialize,
+    Composite, Fault, Global, ListOf, Of, One, Record, RoundTripComposite, Serialize,
     SerializeCompounds, Serializer, Shape, ShapeTree, Source, built, composite_returns, fields,
     named, read_shaped,
 };
 
-type DetachShape = ListOf<OneField<Of<u32>, OneField<Option<bool>, Row>>>;
-
-type Row = OneField<Option<AmqpError>, ()>;
+type DetachShape = ListOf<One<Of<u32>, One<Option<bool>, One<Option<AmqpError>, ()>>>>;
 
 impl Record for Detach {
     type Values = <DetachShape as Shape>::Value;
@@ -81,7 +79,7 @@ impl Detach {
     }
 }
 
-type EndShape = ListOf<OneField<Option<AmqpError>, ()>>;
+type EndShape = ListOf<One<Option<AmqpError>, ()>>;
 
 impl Record for End {
     type Values = <EndShape as Shape>::Value;
@@ -125,7 +123,7 @@ impl RoundTripComposite for End {
     }
 }
 
-type CloseShape = ListOf<OneField<Option<AmqpError>, ()>>;
+type CloseShape = ListOf<One<Option<AmqpError>, ()>>;
 
 impl Record for Close {
     type Values = <CloseShape as Shape>::Value;

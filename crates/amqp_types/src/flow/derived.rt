@@ -5,18 +5,16 @@ ghost use Rattle.serde_amqp.specs.Derive.{value_or, ◌▸◌, by_parts, after_c
 
 use super::{Flow, OrderedMap, Symbol, Value};
 use serde_amqp::derive::{
-    Composite, Fault, FourFields, Global, ListOf, Of, OneField, Record, RoundTripComposite,
-    Serialize, SerializeCompounds, Serializer, Shape, ShapeTree, Source, built, composite_returns,
-    fields, named, read_shaped,
+    Composite, Fault, Four, Global, ListOf, Of, One, Record, RoundTripComposite, Serialize,
+    SerializeCompounds, Serializer, Shape, ShapeTree, Source, built, composite_returns, fields,
+    named, read_shaped,
 };
 
-type FlowShape = ListOf<FourFields<Option<u32>, Of<u32>, Of<u32>, Of<u32>, Row>>;
+type FlowShape = ListOf<Four<Option<u32>, Of<u32>, Of<u32>, Of<u32>, Row>>;
 
-type Row = FourFields<Option<u32>, Option<u32>, Option<u32>, Option<u32>, Row2>;
+type Row = Four<Option<u32>, Option<u32>, Option<u32>, Option<u32>, One<Option<bool>, Row2>>;
 
-type Row2 = OneField<Option<bool>, OneField<Option<bool>, Row3>>;
-
-type Row3 = OneField<Option<OrderedMap<Symbol, Value>>, ()>;
+type Row2 = One<Option<bool>, One<Option<OrderedMap<Symbol, Value>>, ()>>;
 
 impl Record for Flow {
     type Values = <FlowShape as Shape>::Value;

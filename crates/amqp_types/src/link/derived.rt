@@ -8,24 +8,20 @@ use super::{
     SenderSettleMode, Source, Symbol, Value,
 };
 use serde_amqp::derive::{
-    Composite, Fault, FourFields, Global, ListOf, Of, OneField, Record, RoundTripComposite,
-    Serialize, SerializeCompounds, Serializer, Shape, ShapeTree, built, composite_returns, fields,
-    named, read_shaped,
+    Composite, Fault, Four, Global, ListOf, Of, One, Record, RoundTripComposite, Serialize,
+    SerializeCompounds, Serializer, Shape, ShapeTree, built, composite_returns, fields, named,
+    read_shaped,
 };
 
-type AttachShape = ListOf<Row>;
+type AttachShape = ListOf<Four<Of<String>, Of<u32>, Of<Role>, Option<SenderSettleMode>, Row>>;
 
-type Row = FourFields<Of<String>, Of<u32>, Of<Role>, Option<SenderSettleMode>, Row2>;
+type Row = Four<Option<ReceiverSettleMode>, Option<Source>, Option<AnyTarget>, Kind, Row2>;
 
-type Row2 = FourFields<Kind2, Option<Source>, Option<AnyTarget>, Kind, Row3>;
+type Row2 = Four<Option<bool>, Option<u32>, Option<u64>, Option<Multiple<Symbol>>, Row3>;
 
-type Row3 = FourFields<Option<bool>, Option<u32>, Option<u64>, Option<Multiple<Symbol>>, Row4>;
-
-type Row4 = OneField<Option<Multiple<Symbol>>, OneField<Option<OrderedMap<Symbol, Value>>, ()>>;
+type Row3 = One<Option<Multiple<Symbol>>, One<Option<OrderedMap<Symbol, Value>>, ()>>;
 
 type Kind = Option<OrderedMap<ByteBuf, Option<DeliveryState>>>;
-
-type Kind2 = Option<ReceiverSettleMode>;
 
 impl Record for Attach {
     type Values = <AttachShape as Shape>::Value;

@@ -5,12 +5,12 @@ ghost use Rattle.serde_amqp.specs.Derive.{◌▸◌, by_parts, after_code};
 
 use super::{ByteBuf, Multiple, SaslChallenge, SaslInit, SaslMechanisms, SaslResponse, Symbol};
 use serde_amqp::derive::{
-    Composite, Fault, Global, ListOf, Of, OneField, Record, RoundTripComposite, Serialize,
+    Composite, Fault, Global, ListOf, Of, One, Record, RoundTripComposite, Serialize,
     SerializeCompounds, Serializer, Shape, ShapeTree, Source, built, composite_returns, fields,
     named, read_shaped,
 };
 
-type SaslMechanismsShape = ListOf<OneField<Of<Multiple<Symbol>>, ()>>;
+type SaslMechanismsShape = ListOf<One<Of<Multiple<Symbol>>, ()>>;
 
 impl Record for SaslMechanisms {
     type Values = <SaslMechanismsShape as Shape>::Value;
@@ -70,9 +70,7 @@ impl SaslMechanisms {
     }
 }
 
-type SaslInitShape = ListOf<OneField<Of<Symbol>, OneField<Option<ByteBuf>, Row>>>;
-
-type Row = OneField<Option<String>, ()>;
+type SaslInitShape = ListOf<One<Of<Symbol>, One<Option<ByteBuf>, One<Option<String>, ()>>>>;
 
 impl Record for SaslInit {
     type Values = <SaslInitShape as Shape>::Value;
@@ -136,7 +134,7 @@ impl SaslInit {
     }
 }
 
-type SaslChallengeShape = ListOf<OneField<Of<ByteBuf>, ()>>;
+type SaslChallengeShape = ListOf<One<Of<ByteBuf>, ()>>;
 
 impl Record for SaslChallenge {
     type Values = <SaslChallengeShape as Shape>::Value;
@@ -191,7 +189,7 @@ impl SaslChallenge {
     }
 }
 
-type SaslResponseShape = ListOf<OneField<Of<ByteBuf>, ()>>;
+type SaslResponseShape = ListOf<One<Of<ByteBuf>, ()>>;
 
 impl Record for SaslResponse {
     type Values = <SaslResponseShape as Shape>::Value;

@@ -5,14 +5,14 @@ ghost use Rattle.serde_amqp.specs.Derive.{value_or, ◌▸◌, by_parts, after_c
 
 use super::{Begin, Multiple, OrderedMap, Symbol, Value};
 use serde_amqp::derive::{
-    Composite, Fault, FourFields, Global, ListOf, Of, Record, RoundTripComposite, Serialize,
+    Composite, Fault, Four, Global, ListOf, Of, Record, RoundTripComposite, Serialize,
     SerializeCompounds, Serializer, Shape, ShapeTree, Source, built, composite_returns, fields,
     named, read_shaped,
 };
 
-type BeginShape = ListOf<FourFields<Option<u16>, Of<u32>, Of<u32>, Of<u32>, Row>>;
+type BeginShape = ListOf<Four<Option<u16>, Of<u32>, Of<u32>, Of<u32>, Row>>;
 
-type Row = FourFields<Option<u32>, Option<Multiple<Symbol>>, Option<Multiple<Symbol>>, Kind, ()>;
+type Row = Four<Option<u32>, Option<Multiple<Symbol>>, Option<Multiple<Symbol>>, Kind, ()>;
 
 type Kind = Option<OrderedMap<Symbol, Value>>;
 

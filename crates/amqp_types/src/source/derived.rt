@@ -8,20 +8,18 @@ use super::{
     TerminusExpiryPolicy, Value,
 };
 use serde_amqp::derive::{
-    Composite, Fault, FourFields, Global, ListOf, OneField, Record, RoundTripComposite, Serialize,
+    Composite, Fault, Four, Global, ListOf, One, Record, RoundTripComposite, Serialize,
     SerializeCompounds, Serializer, Shape, ShapeTree, built, composite_returns, fields, named,
     read_shaped,
 };
 
 type SourceShape = ListOf<Row>;
 
-type Row = FourFields<Option<Address>, Option<TerminusDurability>, Kind, Option<u32>, Row2>;
+type Row = Four<Option<Address>, Option<TerminusDurability>, Kind, Option<u32>, Row2>;
 
-type Row2 = FourFields<Option<bool>, Kind2, Option<DistributionMode>, Kind2, Row3>;
+type Row2 = Four<Option<bool>, Kind2, Option<DistributionMode>, Kind2, Row3>;
 
-type Row3 = OneField<Option<Outcome>, OneField<Option<Multiple<Symbol>>, Row4>>;
-
-type Row4 = OneField<Option<Multiple<Symbol>>, ()>;
+type Row3 = One<Option<Outcome>, One<Option<Multiple<Symbol>>, One<Option<Multiple<Symbol>>, ()>>>;
 
 type Kind = Option<TerminusExpiryPolicy>;
 

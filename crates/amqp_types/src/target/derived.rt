@@ -7,18 +7,18 @@ use super::{
     Address, Multiple, OrderedMap, Symbol, Target, TerminusDurability, TerminusExpiryPolicy, Value,
 };
 use serde_amqp::derive::{
-    Composite, Fault, FourFields, Global, ListOf, OneField, Record, RoundTripComposite, Serialize,
+    Composite, Fault, Four, Global, ListOf, One, Record, RoundTripComposite, Serialize,
     SerializeCompounds, Serializer, Shape, ShapeTree, Source, built, composite_returns, fields,
     named, read_shaped,
 };
 
 type TargetShape = ListOf<Row>;
 
-type Row = FourFields<Option<Address>, Option<TerminusDurability>, Kind, Option<u32>, Row2>;
+type Row = Four<Option<Address>, Option<TerminusDurability>, Kind, Option<u32>, Row2>;
 
-type Row2 = OneField<Option<bool>, OneField<Option<OrderedMap<Symbol, Value>>, Row3>>;
+type Row2 = One<Option<bool>, One<Option<OrderedMap<Symbol, Value>>, Row3>>;
 
-type Row3 = OneField<Option<Multiple<Symbol>>, ()>;
+type Row3 = One<Option<Multiple<Symbol>>, ()>;
 
 type Kind = Option<TerminusExpiryPolicy>;
 

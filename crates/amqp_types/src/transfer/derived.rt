@@ -5,16 +5,16 @@ ghost use Rattle.serde_amqp.specs.Derive.{value_or, ◌▸◌, by_parts, after_c
 
 use super::{ByteBuf, DeliveryState, Disposition, ReceiverSettleMode, Role, Transfer};
 use serde_amqp::derive::{
-    Composite, Fault, FourFields, Global, ListOf, Of, OneField, Record, RoundTripComposite,
-    Serialize, SerializeCompounds, Serializer, Shape, ShapeTree, Source, built, composite_returns,
-    fields, named, read_shaped,
+    Composite, Fault, Four, Global, ListOf, Of, One, Record, RoundTripComposite, Serialize,
+    SerializeCompounds, Serializer, Shape, ShapeTree, Source, built, composite_returns, fields,
+    named, read_shaped,
 };
 
-type TransferShape = ListOf<FourFields<Of<u32>, Option<u32>, Option<ByteBuf>, Option<u32>, Row>>;
+type TransferShape = ListOf<Four<Of<u32>, Option<u32>, Option<ByteBuf>, Option<u32>, Row>>;
 
-type Row = FourFields<Option<bool>, Option<bool>, Kind, Option<DeliveryState>, Row2>;
+type Row = Four<Option<bool>, Option<bool>, Kind, Option<DeliveryState>, One<Option<bool>, Row2>>;
 
-type Row2 = OneField<Option<bool>, OneField<Option<bool>, OneField<Option<bool>, ()>>>;
+type Row2 = One<Option<bool>, One<Option<bool>, ()>>;
 
 type Kind = Option<ReceiverSettleMode>;
 
@@ -127,9 +127,9 @@ impl Transfer {
     }
 }
 
-type DispositionShape = ListOf<FourFields<Of<Role>, Of<u32>, Option<u32>, Option<bool>, Row3>>;
+type DispositionShape = ListOf<Four<Of<Role>, Of<u32>, Option<u32>, Option<bool>, Row3>>;
 
-type Row3 = OneField<Option<DeliveryState>, OneField<Option<bool>, ()>>;
+type Row3 = One<Option<DeliveryState>, One<Option<bool>, ()>>;
 
 impl Record for Disposition {
     type Values = <DispositionShape as Shape>::Value;

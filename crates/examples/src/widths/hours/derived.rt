@@ -5,12 +5,12 @@ ghost use Rattle.serde_amqp.specs.Derive.{value_or, ◌▸◌, by_parts, tree_by
 
 use super::{Hour, Pressure};
 use serde_amqp::derive::{
-    AfterCode, Composite, Fault, FourFields, Global, ListOf, Of, OneField, Readable, Record,
+    AfterCode, Composite, Fault, Four, Global, ListOf, Of, One, Readable, Record,
     RoundTripComposite, RoundTripReadable, Serialize, SerializeCompounds, Serializer, Shape,
     ShapeTree, Source, built, composite_returns, fields, named, parts_return, read_shaped,
 };
 
-type PressureShape = AfterCode<ListOf<OneField<Of<u32>, ()>>, 0x30>;
+type PressureShape = AfterCode<ListOf<One<Of<u32>, ()>>, 0x30>;
 
 impl Record for Pressure {
     type Values = <PressureShape as Shape>::Value;
@@ -46,11 +46,9 @@ impl RoundTripReadable for Pressure {
     }
 }
 
-type HourShape = ListOf<FourFields<Of<u32>, Of<u16>, Of<i32>, Option<u32>, Row>>;
+type HourShape = ListOf<Four<Of<u32>, Of<u16>, Of<i32>, Option<u32>, Row>>;
 
-type Row = FourFields<Option<u8>, Option<bool>, Option<String>, Option<u16>, Row2>;
-
-type Row2 = OneField<Option<u32>, ()>;
+type Row = Four<Option<u8>, Option<bool>, Option<String>, Option<u16>, One<Option<u32>, ()>>;
 
 impl Record for Hour {
     type Values = <HourShape as Shape>::Value;

@@ -5,28 +5,26 @@ ghost use Rattle.serde_amqp.specs.Derive.{value_or, ◌▸◌, by_parts, tree_by
 
 use super::Month;
 use serde_amqp::derive::{
-    AfterCode, Fault, FourFields, Global, ListOf, Of, Readable, Record, RoundTripReadable,
-    Serialize, SerializeCompounds, Serializer, Shape, ShapeTree, Source, built, fields, named,
-    parts_return, read_shaped,
+    AfterCode, Fault, Four, Global, ListOf, Of, Readable, Record, RoundTripReadable, Serialize,
+    SerializeCompounds, Serializer, Shape, ShapeTree, Source, built, fields, named, parts_return,
+    read_shaped,
 };
 
-type MonthShape = AfterCode<ListOf<Row>, 0x33>;
+type MonthShape = AfterCode<ListOf<Four<Of<String>, Of<u32>, Of<u32>, Of<u32>, Row>>, 0x33>;
 
-type Row = FourFields<Of<String>, Of<u32>, Of<u32>, Of<u32>, Row2>;
+type Row = Four<Of<u32>, Of<u32>, Of<u32>, Of<u32>, Row2>;
 
-type Row2 = FourFields<Of<u32>, Of<u32>, Of<u32>, Of<u32>, Row3>;
+type Row2 = Four<Of<u32>, Of<u32>, Of<u32>, Of<u32>, Row3>;
 
-type Row3 = FourFields<Of<u32>, Of<u32>, Of<u32>, Of<u32>, Row4>;
+type Row3 = Four<Of<u32>, Of<u32>, Of<u32>, Of<u32>, Row4>;
 
-type Row4 = FourFields<Of<u32>, Of<u32>, Of<u32>, Of<u32>, Row5>;
+type Row4 = Four<Of<u32>, Of<u32>, Of<u32>, Of<u32>, Row5>;
 
-type Row5 = FourFields<Of<u32>, Of<u32>, Of<u32>, Of<u32>, Row6>;
+type Row5 = Four<Of<u32>, Of<u32>, Of<u32>, Of<u32>, Row6>;
 
-type Row6 = FourFields<Of<u32>, Of<u32>, Of<u32>, Of<u32>, Row7>;
+type Row6 = Four<Of<u32>, Of<u32>, Of<u32>, Of<u32>, Row7>;
 
-type Row7 = FourFields<Of<u32>, Of<u32>, Of<u32>, Of<u32>, Row8>;
-
-type Row8 = FourFields<Of<u32>, Option<u32>, Option<u32>, Option<u32>, ()>;
+type Row7 = Four<Of<u32>, Option<u32>, Option<u32>, Option<u32>, ()>;
 
 impl Record for Month {
     type Values = <MonthShape as Shape>::Value;
