@@ -2,7 +2,7 @@
 
 from types import SimpleNamespace
 
-from derive_structs import field_rows, field_step, named, shape_tree, tree_of
+from derive_structs import field_aliases, field_rows, named, shape_tree, tree_of
 from derive_terms import N, aliases, built, cases, filled, function, impl, law, macro, parts, quote, reading, serialize, uses, words_in
 
 # of a scalar type: the variant of Value, its kind in a tree, and what the kind contains
@@ -55,8 +55,8 @@ def described(t):
     """One of several composites, which the descriptor selects. With `others`, the last variant has all other descriptors."""
     others = "others" in t.flags
     types = [v.type for v in t.variants]
-    lines = aliases(f"{t.name}Types", [f"{N.Either}<{it}, " for it in types[:len(types) - others]], types[-1] if others else N.Never)
-    out = ["\n".join([*lines, f"type {t.name}Shape = {N.OneOfTypes}<{t.name}Types>;\n"]),
+    steps = [f"{N.Either}<{it}, " for it in types[:len(types) - others]]
+    out = ["\n".join(aliases(f"{t.name}Shape", f"{N.OneOfTypes}<", ">", f"{t.name}Types", steps, types[-1] if others else N.Never)),
            enum_record(t, [(f"{v.name} v", "v", "value", f"{t.name}::{v.name}(value)", others and v is t.variants[-1]) for v in t.variants])]
     if t.reads:
         out.append(read_parts(t, f"{N.OneOfTypes}({N.PhantomData})"))
@@ -180,9 +180,8 @@ def variant_shape(t, v):
     laws = {"names": "λ _. []", "fits": "λ _. Unit {0}", "laws": f"⟦{fields}⟧.laws"}
     read = lambda call, body: function(f"{call}<S: {N.Source}>", ["self", f"alloc: {N.Global}", "source: S"],
                                        f"Result<({fields}::Value, S::Rest), {N.Fault}>", body)
-    steps = [f"{N.FullListOf}<", *(field_step(f) for f in v.fields)]
     body = macro(f"let fields = {N.named}!", named(v.fields), ";", " " * 8) + f"        {N.Shape}::read_parts({N.FullListOf}(fields), alloc, source)\n"
-    return [f"/// The fields of [`{t.name}::{v.name}`].\n" + "\n".join(aliases(f"{name}Fields", steps, "()")),
+    return [f"/// The fields of [`{t.name}::{v.name}`].\n" + "\n".join(field_aliases(f"{name}Fields", f"{N.FullListOf}<", ">", v.fields)),
             f"/// Reads the fields of [`{t.name}::{v.name}`].\n#[derive(Drop)]\npub struct {name};\n",
             impl(N.Shape, seed, laws, read("read_parts", body), types=[("Value", f"{fields}::Value")]),
             impl(N.Nameless, seed, {}, read("read_nameless", f"        {N.Shape}::read_parts(self, alloc, source)\n"))]
@@ -205,8 +204,7 @@ def index(t):
         body = body or built(f"{t.name}::{v.name}", v.fields, v.kind == "tuple", " " * 12).strip()
         arms.append((" ".join([v.name, *held]), values, pattern, body, False))
     if t.reads:
-        lines = aliases(f"{t.name}Variants", steps, "()")
-        out += ["\n".join([*lines, f"type {t.name}Shape = {N.ByIndex}<{t.name}Variants>;\n"]),
+        out += ["\n".join(aliases(f"{t.name}Shape", f"{N.ByIndex}<", ">", f"{t.name}Variants", steps, "()")),
                 enum_record(t, arms),
                 read_parts(t, f"{N.ByIndex}(variants)", macro(f"let variants = {N.variants}!", rows, ";", " " * 8))]
     if t.writes:

@@ -1,6 +1,6 @@
 """The impls of annotated structs: lists, maps and single values, with or without a descriptor."""
 
-from derive_terms import N, aliases, built, filled, function, impl, law, macro, parts, quote, reading, serialize, uses, words_in
+from derive_terms import N, WIDTH, aliases, built, filled, function, impl, law, macro, parts, quote, reading, serialize, uses, words_in
 from derive_types import RESERVED
 
 
@@ -10,14 +10,39 @@ def fields_shape(t, opens, fields, closes):
     return f"{N.AnyOf}{opens}{inner}{closes}" if t.by_name else inner
 
 
-def inner_shape(t):
+def inner_shape(t, fields):
     """The shape without the descriptor."""
-    return f"{N.Of}<{t.fields[0].type}>" if t.encoding == "basic" else fields_shape(t, "<", f"{t.name}Fields" if t.fields else "()", ">")
+    return f"{N.Of}<{t.fields[0].type}>" if t.encoding == "basic" else fields_shape(t, "<", fields, ">")
 
 
-def field_step(f):
-    """The type of a field before that of the fields after it."""
-    return f"{getattr(N, f.seed)}<{f.inner}, " + (f"{number(f)}, " if f.seed == "Defaulted" else "")
+def field_aliases(first, before, after, fields):
+    """The types that name a shape and its fields: rows of four, and then one by one. In a row that is too long for a line, the longest
+    kinds have names."""
+    rows, kinds, out = len(fields) // 4 * 4, [kind(f) for f in fields], []
+    for at in range(0, rows, 4):
+        rest = f"{N.row}00" if at + 4 < len(fields) else "()"
+        kinds[at:at + 4] = [N.kinds.get(it, it) for it in kinds[at:at + 4]]
+        while len(f"type {N.row}00 = {row(kinds[at:at + 4])}{rest}>;") >= WIDTH:
+            longest = max(kinds[at:at + 4], key=lambda it: "<" in it and len(it))
+            if len(longest) < len(N.kind) + 2:
+                break
+            N.kinds[longest] = N.new(N.kind)
+            out.append(f"type {N.kinds[longest]} = {longest};\n")
+            kinds[at:at + 4] = [N.kinds.get(it, it) for it in kinds[at:at + 4]]
+    steps = [*(row(kinds[at:at + 4]) for at in range(0, rows, 4)), *(f"{N.One}<{it}, " for it in kinds[rows:])]
+    return [*aliases(first, before, after, N.row, steps, "()"), *out]
+
+
+def row(kinds):
+    """The type of four fields before that of the fields after them."""
+    return f"{N.Four}<{', '.join(kinds)}, "
+
+
+def kind(f):
+    """The kind of a field, which determines how it is read."""
+    if f.seed == "Optional":
+        return f.type
+    return f"{N.Defaulted}<{f.type}, {number(f)}>" if f.seed == "Defaulted" else f"{N.Of}<{f.type}>"
 
 
 def number(f):
@@ -27,11 +52,12 @@ def number(f):
 
 def shape(t):
     """The types that name the shape."""
-    lines = aliases(f"{t.name}Fields", [field_step(f) for f in t.fields], "()") if t.fields and t.encoding != "basic" else []
-    whole = inner_shape(t)
+    whole = inner_shape(t, "\0" if t.fields else "()")
     if not t.composite:
         whole = f"{N.AfterCode}<{whole}, {t.code}>" if t.code else f"{N.AfterName}<{whole}>" if t.symbol else whole
-    return "\n".join([*lines, f"type {t.name}Shape = {whole};\n"])
+    before, fields, after = whole.partition("\0")
+    return "\n".join(field_aliases(f"{t.name}Shape", before, after, t.fields) if fields else
+                     [f"type {t.name}Shape = {whole};\n"])
 
 
 def holding(t, value):

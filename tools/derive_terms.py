@@ -33,6 +33,18 @@ class Library:
         self.of_file = {t.name for t in types} | {it for it in held if it in known or it[0].isupper() and it not in PRELUDE}
         self.others = self.of_file - words(use for use in uses if use.startswith("serde_amqp::"))
         self.used, self.terms = set(), ""
+        # how many aliases have each name with a number, and the aliases of kinds of fields
+        self.counts, self.kinds = {}, {}
+        self.row, self.kind = self.free("Row"), self.free("Kind")
+
+    def free(self, name):
+        """A name that no type of the file has, with or without a number behind it."""
+        return name if not any(re.fullmatch(rf"{name}\d*", it) for it in self.of_file) else self.free(f"Field{name}")
+
+    def new(self, name):
+        """The next alias of this name: NAME, NAME2 and so on."""
+        self.counts[name] = self.counts.get(name, 0) + 1
+        return f"{name}{self.counts[name] if self.counts[name] > 1 else ''}"
 
     def __getattr__(self, name):
         if name in self.others:
@@ -137,19 +149,20 @@ def cases(arms, of="x", type_="_"):
     return f"elim {of} as (λ _. {type_}) [\n{rows}    ]"
 
 
-def aliases(name, steps, last):
-    """`type NAME = A<B, C<..>>;`, in as many aliases as lines of 100 columns need. A step is the text before the rest."""
-    whole = f"type {name} = {''.join(steps)}{last}{'>' * len(steps)};\n"
-    if len(whole) <= WIDTH + 1:
-        return [whole]
-    groups = [[]]
-    for step in steps:
-        line = f"type {name}00 = {''.join(groups[-1])}{step}{name}00{'>' * len(groups[-1])}>;"
-        if groups[-1] and len(line) > WIDTH:
-            groups.append([])
-        groups[-1].append(step)
-    names = [name] + [f"{name}{at}" for at in range(2, len(groups) + 1)] + [last]
-    return [f"type {names[at]} = {''.join(group)}{names[at + 1]}{'>' * len(group)};\n" for at, group in enumerate(groups)]
+def aliases(first, before, after, name, steps, last):
+    """`type FIRST = BEFORE A<B, NAME> AFTER;`, `type NAME = C<D, NAME2>;` and so on: as many aliases as lines of 100 columns need. A step
+    is the text before the rest."""
+    group, out = [], []
+    line = lambda group, rest: f"type {first} = {before}{''.join(group)}{rest}{'>' * len(group)}{after};\n"
+    for at, step in enumerate(steps):
+        if len(line(group + steps[at:], last)) <= WIDTH:
+            return [*out, line(group + steps[at:], last)]
+        if (group or before) and len(line([*group, step], f"{name}00")) > WIDTH:
+            rest = N.new(name)
+            out.append(line(group, rest))
+            first, before, after, group = rest, "", "", []
+        group.append(step)
+    return [*out, line(group, last)]
 
 
 def macro(head, rows, tail, indent):

@@ -6,17 +6,22 @@ use Rattle.amqp_de.specs.Fields.{FieldSource, by_position, by_name, without, Rea
 use Rattle.amqp_de.specs.Results.{Takes}
 use Rattle.amqp_de.specs.Values.{elements_in, entries_in}
 use Rattle.amqp_de.specs.declared.fault.Fault.{Fault}
+use Rattle.amqp_de.specs.Parts.{ReadsFields}
+use Rattle.amqp_de.specs.declared.fields.FieldValues.{FieldValues}
 use Rattle.amqp_de.proofs.Lists.{is_fields, is_entries}
 
-module _ {T : Type 0} (Absent : T → Type 0) (n : List ℕ) (R : Tree → T → Type 0) (x : T) (K L : FieldSource → Type 0) where
-  pub field_position : (m : List ℕ) → ((ts : List Tree) → K (by_position ts) ↔ L (by_position ts)) → (ts : List Tree) → ReadsField Absent n R x K (by_position ts) ↔ ReadsField Absent m R x L (by_position ts)
+module _ {V W : Type 0} (Absent : V → Type 0) (R : Tree → V → Type 0) (Q L : W → FieldSource → Type 0) (n : List ℕ) where
+  -- A field and the fields after it are read from elements whatever the names are, if those after it are.
+  pub fields_position : (m : List ℕ) → ((w : W) (ts : List Tree) → Q w (by_position ts) ↔ L w (by_position ts))
+      → (x : FieldValues V W) (ts : List Tree) → ReadsFields Absent n R Q x (by_position ts) ↔ ReadsFields Absent m R L x (by_position ts)
   unfolding ReadsField
-  field_position m h [] = ((λ p. (p.0, (h []).0 p.1)), (λ p. (p.0, (h []).1 p.1)))
-  field_position m h (t ∷ ts) = ((λ p. (p.0, (h ts).0 p.1)), (λ p. (p.0, (h ts).1 p.1)))
+  fields_position m h x [] = ((λ p. (p.0, (h x.rest []).0 p.1)), (λ p. (p.0, (h x.rest []).1 p.1)))
+  fields_position m h x (t ∷ ts) = ((λ p. (p.0, (h x.rest ts).0 p.1)), (λ p. (p.0, (h x.rest ts).1 p.1)))
 
-  pub field_name : ((ps : List (Tree × Tree)) → K (by_name ps) ↔ L (by_name ps)) → (ps : List (Tree × Tree)) → ReadsField Absent n R x K (by_name ps) ↔ ReadsField Absent n R x L (by_name ps)
+  pub fields_name : ((w : W) (ps : List (Tree × Tree)) → Q w (by_name ps) ↔ L w (by_name ps))
+      → (x : FieldValues V W) (ps : List (Tree × Tree)) → ReadsFields Absent n R Q x (by_name ps) ↔ ReadsFields Absent n R L x (by_name ps)
   unfolding ReadsField
-  field_name h ps = ((λ p. (p.0, (h (without n ps)).0 p.1)), (λ p. (p.0, (h (without n ps)).1 p.1)))
+  fields_name h x ps = ((λ p. (p.0, (h x.rest (without n ps)).0 p.1)), (λ p. (p.0, (h x.rest (without n ps)).1 p.1)))
 
 module _ (K L : FieldSource → Type 0) where
   pub on_fields : ((ts : List Tree) → K (by_position ts) ↔ L (by_position ts)) → (t : Tree) → OnFields K t ↔ OnFields L t

@@ -1,35 +1,22 @@
 //! Fields that have a default.
 
-ghost use Rattle.std.specs.Prelude.{◌≡◌, ◌∷◌, true};
-ghost use Rattle.amqp_de.specs.Defaults.{ReadsOr, ReadsDefaulted, RestorableDefaulted};
-ghost use Rattle.amqp_de.specs.Present.{required};
+ghost use Rattle.std.specs.Prelude.{◌≡◌, true};
+ghost use Rattle.amqp_de.specs.Defaults.{ReadsOr, RestorableDefaulted};
 
 use crate::deserialize::Deserialize;
 use crate::fault::Fault;
-use crate::field::{Field, read_elements, read_entries};
-use crate::fields::{FieldSeeds, FieldValues};
+use crate::field_kind::FieldKind;
 use crate::numbered::Numbered;
 use crate::source::Source;
 use std::alloc::Global;
 use std::marker::PhantomData;
 
-/// A field that is read as the value of the number `D` if it is absent or null, and the fields
-/// after it.
+/// A field that is read as the value of the number `D` if it is absent or null.
 #[derive(Drop)]
-pub struct Defaulted<V, const D: u64, R> {
-    /// The name of the field.
-    pub name: &'static str,
-    /// The type of the field.
-    pub of: PhantomData<V>,
-    /// The fields after it; `()` if there are none.
-    pub rest: R,
-}
-
-// The value of a field, or the value of the number `D` if it is absent or null.
-struct OrNumber<V, const D: u64>(PhantomData<V>);
+pub struct Defaulted<V, const D: u64>(pub PhantomData<V>);
 
 #[tactic(auto, unfolding(crate::specs::Defaults::ReadsOr))]
-impl<V: Deserialize + Numbered, const D: u64> Field for OrNumber<V, D> {
+impl<V: Deserialize + Numbered, const D: u64> FieldKind for Defaulted<V, D> {
     type Value = V;
 
     ghost reads = { ReadsOr (V.numbered D) V.reads };
@@ -63,39 +50,5 @@ impl<V: Deserialize + Numbered, const D: u64> Field for OrNumber<V, D> {
     #[inline(always)]
     fn read_absent<S: Source>(_name: &'static str, _count_read: Option<usize>) -> Result<V, Fault> {
         Ok(V::from_number(D))
-    }
-}
-
-impl<V: Deserialize + Numbered, const D: u64, R: FieldSeeds> FieldSeeds for Defaulted<V, D, R> {
-    type Values = FieldValues<V, R::Values>;
-
-    ghost reads = { λ f x.
-        ReadsDefaulted f.name.now (V.numbered D) V.reads x.value (R.reads f.rest x.rest) };
-
-    ghost names = { λ f. f.name.now ∷ R.names f.rest };
-
-    ghost images = { λ x. required (V.image x.value) ∷ R.images x.rest };
-
-    ghost restorable = { λ x.
-        RestorableDefaulted V.image V.restorable x.value × R.restorable x.rest };
-
-    ghost same = { λ x y. V.same x.value y.value × R.same x.rest y.rest };
-
-    #[inline(always)]
-    fn read_elements<S: Source>(
-        &self,
-        alloc: Global,
-        elements: S::Elements,
-    ) -> Result<FieldValues<V, R::Values>, Fault> {
-        read_elements::<OrNumber<V, D>, R, S>(alloc, self.name, &self.rest, elements)
-    }
-
-    #[inline(always)]
-    fn read_entries<S: Source>(
-        &self,
-        alloc: Global,
-        entries: S::Entries,
-    ) -> Result<FieldValues<V, R::Values>, Fault> {
-        read_entries::<OrNumber<V, D>, R, S>(alloc, self.name, &self.rest, entries)
     }
 }

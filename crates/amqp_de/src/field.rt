@@ -1,95 +1,24 @@
 //! One field and the fields after it: the body that all kinds of fields share.
 
-ghost use Rattle.std.specs.Prelude.{◌≡◌, ◌⊎◌, List, ◌∷◌, Bool, false, true, ◌&&◌, IfOk, IfErr};
+ghost use Rattle.std.specs.Prelude.{◌≡◌, ◌⊎◌, List, ◌∷◌, Bool, true, ◌&&◌, IfOk, IfErr};
 ghost use Rattle.amqp_ser.specs.Tree.{Tree};
 ghost use Rattle.amqp_de.specs.Fields.{by_position, by_name, without};
 ghost use Rattle.amqp_de.specs.Parts.{ReadsFields, images_of_fields, RestorableFields, SameFields};
 ghost use Rattle.amqp_de.specs.Present.{EndsEarly, present_fields, distinct_names};
-ghost use Rattle.amqp_de.specs.Results.{IsMemory, Takes, Brings, ReadsAndRestores};
+ghost use Rattle.amqp_de.specs.Results.{IsMemory, ReadsAndRestores};
 ghost use Rattle.amqp_de.specs.Steps.{ReadsElements, ReadsEntries, TakesField, TakesNamed, Follows};
 ghost use Rattle.amqp_de.specs.Steps.{RefusesValue, RefusesFirst, RefusesNamed, IsRequired};
 ghost use Rattle.amqp_de.specs.declared.fields.FieldValues.{FieldValues};
 
-use crate::deserialize::Deserialize;
 use crate::fault::Fault;
+use crate::field_kind::FieldKind;
 use crate::fields::{FieldSeeds, FieldValues};
-use crate::seed::Of;
 use crate::source::Source;
 use std::alloc::Global;
 
-/// How a field is read if it is present, and if it is absent.
-pub trait Field {
-    /// The type of the value.
-    type Value: Drop;
-
-    /// Which trees are read as which values.
-    ghost reads: { Tree → Self.Value → Type 0 };
-
-    /// Which value an absent field is read as.
-    ghost absent: { Self.Value → Type 0 };
-
-    /// Whether a value is present in an image of the fields.
-    ghost present: { Self.Value → Bool };
-
-    /// The tree of the untyped value that represents a value.
-    ghost image: { Self.Value → Tree };
-
-    /// Whether a value round-trips through its image.
-    ghost restorable: { Self.Value → Type 0 };
-
-    /// Whether two values have the same contents.
-    ghost same: { Self.Value → Self.Value → Type 0 };
-
-    /// States that a value that is not present has the contents of that of an absent field.
-    fn law()
-        ensures { (x y : Self.Value) → present y ≡ false → absent x → same x y };
-
-    /// Reads a value, and returns what is left.
-    fn read<S: Source>(alloc: Global, source: S) -> Result<(Self::Value, S::Rest), Fault>
-        ensures read { Takes reads (S.value source) (S.is_whole source) (S.left source) result }
-        ensures law { Brings image restorable same (S.value source) (S.is_whole source) result };
-
-    /// Returns the value of an absent field, or the error for a missing one.
-    fn read_absent<S: Source>(
-        name: &'static str,
-        count_read: Option<usize>,
-    ) -> Result<Self::Value, Fault>
-        ensures ok { IfOk result (λ x. absent x) }
-        ensures err { IfErr result (λ _. IsRequired absent present) };
-}
-
-/// A required field.
-impl<V: Deserialize> Field for Of<V> {
-    type Value = V;
-
-    ghost reads = { V.reads };
-
-    ghost absent = { λ _. ⊥ };
-
-    ghost present = { λ _. true };
-
-    ghost image = { V.image };
-
-    ghost restorable = { V.restorable };
-
-    ghost same = { V.same };
-
-    fn law() {}
-
-    #[inline(always)]
-    fn read<S: Source>(alloc: Global, source: S) -> Result<(V, S::Rest), Fault> {
-        V::read(alloc, source)
-    }
-
-    #[inline(always)]
-    fn read_absent<S: Source>(name: &'static str, count_read: Option<usize>) -> Result<V, Fault> {
-        Err(S::missing(name, count_read))
-    }
-}
-
-// Reads the next element, or what an absent field is read as if there is none.
+/// Reads the next element, or what an absent field is read as if there is none.
 #[inline(always)]
-fn next_value<F: Field, S: Source>(
+pub(crate) fn next_value<F: FieldKind, S: Source>(
     alloc: Global,
     name: &'static str,
     elements: &mut S::Elements,
@@ -115,9 +44,9 @@ fn next_value<F: Field, S: Source>(
     Ok(value)
 }
 
-// Reads the value of the key with this name, or what an absent field is read as if there is none.
+/// Reads the value of the key with this name, or what an absent field is read as if there is none.
 #[inline(always)]
-fn named_value<F: Field, S: Source>(
+pub(crate) fn named_value<F: FieldKind, S: Source>(
     alloc: Global,
     name: &'static str,
     entries: &mut S::Entries,
@@ -148,7 +77,7 @@ fn named_value<F: Field, S: Source>(
 
 /// Reads a field and the fields after it from elements, by position.
 #[inline(always)]
-pub(crate) fn read_elements<F: Field, R: FieldSeeds, S: Source>(
+pub(crate) fn read_elements<F: FieldKind, R: FieldSeeds, S: Source>(
     alloc: Global,
     name: &'static str,
     others: &R,
@@ -180,7 +109,7 @@ pub(crate) fn read_elements<F: Field, R: FieldSeeds, S: Source>(
 
 /// Reads a field and the fields after it from the entries of a map, by name.
 #[inline(always)]
-pub(crate) fn read_entries<F: Field, R: FieldSeeds, S: Source>(
+pub(crate) fn read_entries<F: FieldKind, R: FieldSeeds, S: Source>(
     alloc: Global,
     name: &'static str,
     others: &R,

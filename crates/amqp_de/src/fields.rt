@@ -1,17 +1,17 @@
 //! The fields of a struct that are read in one call.
 
-ghost use Rattle.std.specs.Prelude.{◌≡◌, ◌⊎◌, ℕ, List, [], ◌∷◌, Bool, true, IfOk, IfErr, None, is_some};
+ghost use Rattle.std.specs.Prelude.{◌≡◌, ◌⊎◌, ℕ, List, [], ◌∷◌, Bool, true, IfOk, IfErr};
 ghost use Rattle.amqp_ser.specs.Tree.{Tree};
-ghost use Rattle.amqp_de.specs.Fields.{FieldSource, by_position, by_name, ReadsRequired, NoMoreFields, ReadsOptional};
-ghost use Rattle.amqp_de.specs.Present.{EndsEarly, required, present_fields, distinct_names, optional};
-ghost use Rattle.amqp_de.specs.Reads.{Always, ReadsOption, image_option, RestorableOption, SameOption};
+ghost use Rattle.amqp_de.specs.Fields.{FieldSource, by_position, by_name, NoMoreFields};
+ghost use Rattle.amqp_de.specs.Parts.{ReadsFields, images_of_fields, RestorableFields, SameFields};
+ghost use Rattle.amqp_de.specs.Present.{EndsEarly, present_fields, distinct_names};
+ghost use Rattle.amqp_de.specs.Reads.{Always};
 ghost use Rattle.amqp_de.specs.Results.{IsMemory};
 ghost use Rattle.amqp_de.specs.Steps.{ReadsElements, ReadsEntries};
 
-use crate::deserialize::Deserialize;
 use crate::fault::Fault;
-use crate::field::{Field, read_elements, read_entries};
-use crate::seed::Of;
+use crate::field::{read_elements, read_entries};
+use crate::field_kind::FieldKind;
 use crate::source::Source;
 use std::alloc::Global;
 use std::marker::PhantomData;
@@ -21,7 +21,7 @@ use std::marker::PhantomData;
 /// # Implementer notes
 /// Required methods: `read_elements` and `read_entries`. They return values that `reads` relates to
 /// the elements or entries (`ok`, `err`), and from the images of restorable fields values with the
-/// same contents (`law`). [`Required`] reads a field, and leaves the others to `rest`.
+/// same contents (`law`). [`One`] reads a field, and leaves the others to `rest`.
 pub trait FieldSeeds: Sized {
     /// The values of the fields: [`FieldValues`] of each and the others, and `()` after the last.
     type Values;
@@ -104,37 +104,40 @@ pub struct FieldValues<V, R> {
     pub rest: R,
 }
 
-/// A required field, and the fields after it.
+/// A field, and the fields after it.
+///
+/// # Example
+/// `One<Of<u32>, One<Option<bool>, ()>>` is a required `u32` and an optional `bool`.
 #[derive(Drop)]
-pub struct Required<V, R> {
+pub struct One<F, R> {
     /// The name of the field.
     pub name: &'static str,
-    /// The type of the field.
-    pub of: PhantomData<V>,
+    /// The kind of the field.
+    pub of: PhantomData<F>,
     /// The fields after it; `()` if there are none.
     pub rest: R,
 }
 
-impl<V: Deserialize, R: FieldSeeds> FieldSeeds for Required<V, R> {
-    type Values = FieldValues<V, R::Values>;
+impl<F: FieldKind, R: FieldSeeds> FieldSeeds for One<F, R> {
+    type Values = FieldValues<F::Value, R::Values>;
 
-    ghost reads = { λ f x. ReadsRequired f.name.now V.reads x.value (R.reads f.rest x.rest) };
+    ghost reads = { λ f. ReadsFields F.absent f.name.now F.reads (R.reads f.rest) };
 
     ghost names = { λ f. f.name.now ∷ R.names f.rest };
 
-    ghost images = { λ x. required (V.image x.value) ∷ R.images x.rest };
+    ghost images = { images_of_fields F.present F.image R.images };
 
-    ghost restorable = { λ x. V.restorable x.value × R.restorable x.rest };
+    ghost restorable = { RestorableFields F.restorable R.restorable };
 
-    ghost same = { λ x y. V.same x.value y.value × R.same x.rest y.rest };
+    ghost same = { SameFields F.same R.same };
 
     #[inline(always)]
     fn read_elements<S: Source>(
         &self,
         alloc: Global,
         elements: S::Elements,
-    ) -> Result<FieldValues<V, R::Values>, Fault> {
-        read_elements::<Of<V>, R, S>(alloc, self.name, &self.rest, elements)
+    ) -> Result<FieldValues<F::Value, R::Values>, Fault> {
+        read_elements::<F, R, S>(alloc, self.name, &self.rest, elements)
     }
 
     #[inline(always)]
@@ -142,82 +145,7 @@ impl<V: Deserialize, R: FieldSeeds> FieldSeeds for Required<V, R> {
         &self,
         alloc: Global,
         entries: S::Entries,
-    ) -> Result<FieldValues<V, R::Values>, Fault> {
-        read_entries::<Of<V>, R, S>(alloc, self.name, &self.rest, entries)
-    }
-}
-
-/// An optional field, which may be absent or null, and the fields after it.
-#[derive(Drop)]
-pub struct Optional<V, R> {
-    /// The name of the field.
-    pub name: &'static str,
-    /// The type of the field if it is present.
-    pub of: PhantomData<V>,
-    /// The fields after it; `()` if there are none.
-    pub rest: R,
-}
-
-impl<V: Deserialize> Field for Option<V> {
-    type Value = Option<V>;
-
-    ghost reads = { ReadsOption V.reads };
-
-    ghost absent = { λ x. x ≡ None };
-
-    ghost present = { is_some };
-
-    ghost image = { image_option V.image };
-
-    ghost restorable = { RestorableOption V.image V.restorable };
-
-    ghost same = { SameOption V.same };
-
-    fn law() {}
-
-    #[inline(always)]
-    fn read<S: Source>(alloc: Global, source: S) -> Result<(Option<V>, S::Rest), Fault> {
-        <Option<V> as Deserialize>::read(alloc, source)
-    }
-
-    #[inline(always)]
-    fn read_absent<S: Source>(
-        _name: &'static str,
-        _count_read: Option<usize>,
-    ) -> Result<Option<V>, Fault> {
-        Ok(None)
-    }
-}
-
-impl<V: Deserialize, R: FieldSeeds> FieldSeeds for Optional<V, R> {
-    type Values = FieldValues<Option<V>, R::Values>;
-
-    ghost reads = { λ f x. ReadsOptional f.name.now V.reads x.value (R.reads f.rest x.rest) };
-
-    ghost names = { λ f. f.name.now ∷ R.names f.rest };
-
-    ghost images = { λ x. optional V.image x.value ∷ R.images x.rest };
-
-    ghost restorable = { λ x.
-        RestorableOption V.image V.restorable x.value × R.restorable x.rest };
-
-    ghost same = { λ x y. SameOption V.same x.value y.value × R.same x.rest y.rest };
-
-    #[inline(always)]
-    fn read_elements<S: Source>(
-        &self,
-        alloc: Global,
-        elements: S::Elements,
-    ) -> Result<FieldValues<Option<V>, R::Values>, Fault> {
-        read_elements::<Option<V>, R, S>(alloc, self.name, &self.rest, elements)
-    }
-
-    #[inline(always)]
-    fn read_entries<S: Source>(
-        &self,
-        alloc: Global,
-        entries: S::Entries,
-    ) -> Result<FieldValues<Option<V>, R::Values>, Fault> {
-        read_entries::<Option<V>, R, S>(alloc, self.name, &self.rest, entries)
+    ) -> Result<FieldValues<F::Value, R::Values>, Fault> {
+        read_entries::<F, R, S>(alloc, self.name, &self.rest, entries)
     }
 }

@@ -2,15 +2,13 @@
 
 ghost use Rattle.std.specs.Prelude.{◌↔◌, ℕ, List};
 ghost use Rattle.amqp_ser.specs.Tree.{Tree};
-ghost use Rattle.amqp_de.specs.Defaults.{ReadsDefaulted};
-ghost use Rattle.amqp_de.specs.Fields.{FieldSource, by_position, by_name};
-ghost use Rattle.amqp_de.specs.Fields.{ReadsRequired, ReadsOptional, NoMoreFields};
+ghost use Rattle.amqp_de.specs.Fields.{FieldSource, by_position, by_name, NoMoreFields};
 ghost use Rattle.amqp_de.specs.Laws.{first_name, other_names};
+ghost use Rattle.amqp_de.specs.Parts.{ReadsFields};
 
-use crate::defaulted::Defaulted;
-use crate::deserialize::Deserialize;
-use crate::fields::{FieldSeeds, Optional, Required};
-use crate::numbered::Numbered;
+use crate::field_kind::FieldKind;
+use crate::fields::{FieldSeeds, One};
+use crate::four::Four;
 
 /// Fields whose reading is determined by their types and their names.
 pub trait NamedFields: FieldSeeds {
@@ -32,27 +30,22 @@ impl NamedFields for () {
     fn names_suffice() {}
 }
 
-impl<V: Deserialize, R: NamedFields> NamedFields for Required<V, R> {
-    ghost reads_by_names = { λ ns x.
-        ReadsRequired (first_name ns) V.reads x.value (R.reads_by_names (other_names ns) x.rest) };
+impl<F: FieldKind, R: NamedFields> NamedFields for One<F, R> {
+    ghost reads_by_names = { λ ns.
+        ReadsFields F.absent (first_name ns) F.reads (R.reads_by_names (other_names ns)) };
 
     fn names_suffice() {
         R::names_suffice();
     }
 }
 
-impl<V: Deserialize, R: NamedFields> NamedFields for Optional<V, R> {
-    ghost reads_by_names = { λ ns x.
-        ReadsOptional (first_name ns) V.reads x.value (R.reads_by_names (other_names ns) x.rest) };
-
-    fn names_suffice() {
-        R::names_suffice();
-    }
-}
-
-impl<V: Deserialize + Numbered, const D: u64, R: NamedFields> NamedFields for Defaulted<V, D, R> {
-    ghost reads_by_names = { λ ns x. ReadsDefaulted (first_name ns) (V.numbered D) V.reads x.value
-        (R.reads_by_names (other_names ns) x.rest) };
+impl<A: FieldKind, B: FieldKind, C: FieldKind, D: FieldKind, R: NamedFields> NamedFields
+    for Four<A, B, C, D, R> {
+    ghost reads_by_names = { λ ns. ReadsFields A.absent (first_name ns) A.reads
+        (ReadsFields B.absent (first_name (other_names ns)) B.reads
+        (ReadsFields C.absent (first_name (other_names (other_names ns))) C.reads
+        (ReadsFields D.absent (first_name (other_names (other_names (other_names ns)))) D.reads
+        (R.reads_by_names (other_names (other_names (other_names (other_names ns)))))))) };
 
     fn names_suffice() {
         R::names_suffice();

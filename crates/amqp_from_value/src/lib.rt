@@ -26,7 +26,7 @@ mod shapes;
 mod tuples;
 
 pub use alternatives::{RoundTripAlternatives, RoundTripComposite};
-pub use fields::RoundTripFields;
+pub use fields::{RoundTripField, RoundTripFields};
 pub use lazy::ReadLazy;
 pub use limited::{Limits, from_slice_limited, from_slice_with};
 pub use limited_located::from_slice_limited_located;

@@ -4,8 +4,8 @@
 pub use crate::{built, fields, named, place, variants};
 pub use amqp_de::{
     AfterCode, AfterName, AnyOf, ByIndex, Composite, DataVariant, Defaulted, Deserialize, Either,
-    Fault, FullListOf, ListOf, MapOf, Named, Nameless, Never, Of, OneOfTypes, Optional, Readable,
-    Record, Required, Shape, Source, UnitVariant, read_shaped, read_string, read_symbol,
+    Fault, Four, FullListOf, ListOf, MapOf, Named, Nameless, Never, Of, One, OneOfTypes, Readable,
+    Record, Shape, Source, UnitVariant, read_shaped, read_string, read_symbol,
 };
 pub use amqp_from_value::{
     MapKey, RoundTrip, RoundTripComposite, RoundTripReadable, ShapeTree, after_name_returns,

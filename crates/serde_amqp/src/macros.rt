@@ -37,27 +37,34 @@ macro_rules! fields {
 #[macro_export]
 macro_rules! named {
     () => { () };
-    ($name:literal $(, $($rest:tt)*)?) => {
-        $crate::de::Required {
-            name: $name,
+    (@) => { () };
+    (@ [$a:tt $A:ty] [$b:tt $B:ty] [$c:tt $C:ty] [$d:tt $D:ty] $($rest:tt)*) => {
+        $crate::de::Four::<$A, $B, $C, $D, _> {
+            first: $a,
+            second: $b,
+            third: $c,
+            fourth: $d,
             of: std::marker::PhantomData,
-            rest: $crate::named!($($($rest)*)?)
+            rest: $crate::named!(@ $($rest)*)
         }
     };
-    ($name:literal ? $(, $($rest:tt)*)?) => {
-        $crate::de::Optional {
+    (@ $([$($row:tt)*])* $name:literal $(, $($rest:tt)*)?) => {
+        $crate::named!(@ $([$($row)*])* [$name $crate::de::Of<_>] $($($rest)*)?)
+    };
+    (@ $([$($row:tt)*])* $name:literal ? $(, $($rest:tt)*)?) => {
+        $crate::named!(@ $([$($row)*])* [$name Option<_>] $($($rest)*)?)
+    };
+    (@ $([$($row:tt)*])* $name:literal = $default:literal $(, $($rest:tt)*)?) => {
+        $crate::named!(@ $([$($row)*])* [$name $crate::de::Defaulted<_, $default>] $($($rest)*)?)
+    };
+    (@ [$name:tt $F:ty] $($rest:tt)*) => {
+        $crate::de::One::<$F, _> {
             name: $name,
             of: std::marker::PhantomData,
-            rest: $crate::named!($($($rest)*)?)
+            rest: $crate::named!(@ $($rest)*)
         }
     };
-    ($name:literal = $default:literal $(, $($rest:tt)*)?) => {
-        $crate::de::Defaulted::<_, $default, _> {
-            name: $name,
-            of: std::marker::PhantomData,
-            rest: $crate::named!($($($rest)*)?)
-        }
-    };
+    ($($fields:tt)+) => { $crate::named!(@ $($fields)+) };
 }
 
 /// The pattern of the values of fields, in order: `let values! { name, other } = read(..)?;`.

@@ -7,14 +7,12 @@ use super::{
     Accepted, AmqpError, Modified, OrderedMap, Received, Rejected, Released, Symbol, Value,
 };
 use serde_amqp::derive::{
-    Composite, Fault, Global, ListOf, Optional, Record, Required, RoundTripComposite, Serialize,
+    Composite, Fault, Global, ListOf, Of, One, Record, RoundTripComposite, Serialize,
     SerializeCompounds, Serializer, Shape, ShapeTree, Source, built, composite_returns, fields,
     named, read_shaped,
 };
 
-type ReceivedFields = Required<u32, Required<u64, ()>>;
-
-type ReceivedShape = ListOf<ReceivedFields>;
+type ReceivedShape = ListOf<One<Of<u32>, One<Of<u64>, ()>>>;
 
 impl Record for Received {
     type Values = <ReceivedShape as Shape>::Value;
@@ -120,9 +118,7 @@ impl RoundTripComposite for Accepted {
     }
 }
 
-type RejectedFields = Optional<AmqpError, ()>;
-
-type RejectedShape = ListOf<RejectedFields>;
+type RejectedShape = ListOf<One<Option<AmqpError>, ()>>;
 
 impl Record for Rejected {
     type Values = <RejectedShape as Shape>::Value;
@@ -211,9 +207,9 @@ impl RoundTripComposite for Released {
     }
 }
 
-type ModifiedFields = Optional<bool, Optional<bool, Optional<OrderedMap<Symbol, Value>, ()>>>;
+type ModifiedShape = ListOf<One<Option<bool>, One<Option<bool>, Row>>>;
 
-type ModifiedShape = ListOf<ModifiedFields>;
+type Row = One<Option<OrderedMap<Symbol, Value>>, ()>;
 
 impl Record for Modified {
     type Values = <ModifiedShape as Shape>::Value;

@@ -5,14 +5,14 @@ ghost use Rattle.serde_amqp.specs.Derive.{◌▸◌, by_parts, after_code};
 
 use super::{AmqpError, OrderedMap, Symbol, Value};
 use serde_amqp::derive::{
-    Composite, Fault, Global, ListOf, Optional, Record, Required, RoundTripComposite, Serialize,
+    Composite, Fault, Global, ListOf, Of, One, Record, RoundTripComposite, Serialize,
     SerializeCompounds, Serializer, Shape, ShapeTree, Source, built, composite_returns, fields,
     named, read_shaped,
 };
 
-type AmqpErrorFields = Required<Symbol, Optional<String, Optional<OrderedMap<Symbol, Value>, ()>>>;
+type AmqpErrorShape = ListOf<One<Of<Symbol>, One<Option<String>, Row>>>;
 
-type AmqpErrorShape = ListOf<AmqpErrorFields>;
+type Row = One<Option<OrderedMap<Symbol, Value>>, ()>;
 
 impl Record for AmqpError {
     type Values = <AmqpErrorShape as Shape>::Value;

@@ -5,14 +5,14 @@ ghost use Rattle.serde_amqp.specs.Derive.{value_or, ◌▸◌, by_parts, after_c
 
 use super::Header;
 use serde_amqp::derive::{
-    Composite, Fault, Global, ListOf, Optional, Record, RoundTripComposite, Serialize,
+    Composite, Fault, Four, Global, ListOf, One, Record, RoundTripComposite, Serialize,
     SerializeCompounds, Serializer, Shape, ShapeTree, Source, built, composite_returns, fields,
     named, read_shaped,
 };
 
-type HeaderFields = Optional<bool, Optional<u8, Optional<u32, Optional<bool, Optional<u32, ()>>>>>;
+type HeaderShape = ListOf<Four<Option<bool>, Option<u8>, Option<u32>, Option<bool>, Row>>;
 
-type HeaderShape = ListOf<HeaderFields>;
+type Row = One<Option<u32>, ()>;
 
 impl Record for Header {
     type Values = <HeaderShape as Shape>::Value;

@@ -5,24 +5,20 @@ ghost use Rattle.serde_amqp.specs.Derive.{◌▸◌, by_parts, after_code};
 
 use super::{Address, ByteBuf, MessageId, Properties, Symbol, Timestamp};
 use serde_amqp::derive::{
-    Composite, Fault, Global, ListOf, Optional, Record, RoundTripComposite, Serialize,
+    Composite, Fault, Four, Global, ListOf, One, Record, RoundTripComposite, Serialize,
     SerializeCompounds, Serializer, Shape, ShapeTree, Source, built, composite_returns, fields,
     named, read_shaped,
 };
 
-type PropertiesFields = Optional<MessageId, Optional<ByteBuf, PropertiesFields2>>;
+type PropertiesShape = ListOf<Row>;
 
-type PropertiesFields2 = Optional<Address, Optional<String, PropertiesFields3>>;
+type Row = Four<Option<MessageId>, Option<ByteBuf>, Option<Address>, Option<String>, Row2>;
 
-type PropertiesFields3 = Optional<Address, Optional<MessageId, PropertiesFields4>>;
+type Row2 = Four<Option<Address>, Option<MessageId>, Option<Symbol>, Option<Symbol>, Row3>;
 
-type PropertiesFields4 = Optional<Symbol, Optional<Symbol, PropertiesFields5>>;
+type Row3 = Four<Option<Timestamp>, Option<Timestamp>, Option<String>, Option<u32>, Row4>;
 
-type PropertiesFields5 = Optional<Timestamp, Optional<Timestamp, PropertiesFields6>>;
-
-type PropertiesFields6 = Optional<String, Optional<u32, Optional<String, ()>>>;
-
-type PropertiesShape = ListOf<PropertiesFields>;
+type Row4 = One<Option<String>, ()>;
 
 impl Record for Properties {
     type Values = <PropertiesShape as Shape>::Value;

@@ -12,15 +12,13 @@ use serde_amqp::derive::{
     Serializer, Shape, ShapeTree, Source, parts_return, place, read_shaped,
 };
 
-type SectionTypes = Either<Header, Either<DeliveryAnnotations, SectionTypes2>>;
+type SectionShape = OneOfTypes<Either<Header, Either<DeliveryAnnotations, SectionTypes>>>;
 
-type SectionTypes2 = Either<MessageAnnotations, Either<Properties, SectionTypes3>>;
+type SectionTypes = Either<MessageAnnotations, Either<Properties, SectionTypes2>>;
 
-type SectionTypes3 = Either<ApplicationProperties, Either<Data, SectionTypes4>>;
+type SectionTypes2 = Either<ApplicationProperties, Either<Data, SectionTypes3>>;
 
-type SectionTypes4 = Either<AmqpSequence, Either<AmqpValue, Either<Footer, Unknown>>>;
-
-type SectionShape = OneOfTypes<SectionTypes>;
+type SectionTypes3 = Either<AmqpSequence, Either<AmqpValue, Either<Footer, Unknown>>>;
 
 impl Record for Section {
     ghost use Rattle.amqp_messaging.specs.declared.section.Section.TheVariants as variant;

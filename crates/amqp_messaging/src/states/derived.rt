@@ -9,17 +9,14 @@ use super::{
     TransactionalState, Unknown,
 };
 use serde_amqp::derive::{
-    Composite, Either, Fault, Global, ListOf, OneOfTypes, Optional, PhantomData, Readable, Record,
-    Required, RoundTripComposite, RoundTripReadable, Serialize, SerializeCompounds, Serializer,
-    Shape, ShapeTree, Source, built, composite_returns, fields, named, parts_return, place,
-    read_shaped,
+    Composite, Either, Fault, Global, ListOf, Of, One, OneOfTypes, PhantomData, Readable, Record,
+    RoundTripComposite, RoundTripReadable, Serialize, SerializeCompounds, Serializer, Shape,
+    ShapeTree, Source, built, composite_returns, fields, named, parts_return, place, read_shaped,
 };
 
-type OutcomeTypes = Either<Accepted, Either<Rejected, Either<Released, OutcomeTypes2>>>;
+type OutcomeShape = OneOfTypes<Either<Accepted, Either<Rejected, OutcomeTypes>>>;
 
-type OutcomeTypes2 = Either<Modified, Either<Declared, Unknown>>;
-
-type OutcomeShape = OneOfTypes<OutcomeTypes>;
+type OutcomeTypes = Either<Released, Either<Modified, Either<Declared, Unknown>>>;
 
 impl Record for Outcome {
     ghost use Rattle.amqp_messaging.specs.declared.states.Outcome.TheVariants as variant;
@@ -77,9 +74,7 @@ impl RoundTripReadable for Outcome {
     }
 }
 
-type TransactionalStateFields = Required<ByteBuf, Optional<Outcome, ()>>;
-
-type TransactionalStateShape = ListOf<TransactionalStateFields>;
+type TransactionalStateShape = ListOf<One<Of<ByteBuf>, One<Option<Outcome>, ()>>>;
 
 impl Record for TransactionalState {
     type Values = <TransactionalStateShape as Shape>::Value;
@@ -143,15 +138,11 @@ impl TransactionalState {
     }
 }
 
-type DeliveryStateTypes = Either<Received, Either<Accepted, DeliveryStateTypes2>>;
+type DeliveryStateShape = OneOfTypes<Either<Received, Either<Accepted, DeliveryStateTypes>>>;
 
-type DeliveryStateTypes2 = Either<Rejected, Either<Released, DeliveryStateTypes3>>;
+type DeliveryStateTypes = Either<Rejected, Either<Released, DeliveryStateTypes2>>;
 
-type DeliveryStateTypes3 = Either<Modified, Either<Declared, DeliveryStateTypes4>>;
-
-type DeliveryStateTypes4 = Either<TransactionalState, Unknown>;
-
-type DeliveryStateShape = OneOfTypes<DeliveryStateTypes>;
+type DeliveryStateTypes2 = Either<Modified, Either<Declared, Either<TransactionalState, Unknown>>>;
 
 impl Record for DeliveryState {
     ghost use Rattle.amqp_messaging.specs.declared.states.DeliveryState.TheVariants as variant;

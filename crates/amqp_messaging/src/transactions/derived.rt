@@ -5,14 +5,12 @@ ghost use Rattle.serde_amqp.specs.Derive.{◌▸◌, by_parts, after_code};
 
 use super::{ByteBuf, Declare, Declared, Discharge, Value};
 use serde_amqp::derive::{
-    Composite, Fault, Global, ListOf, Optional, Record, Required, RoundTripComposite, Serialize,
+    Composite, Fault, Global, ListOf, Of, One, Record, RoundTripComposite, Serialize,
     SerializeCompounds, Serializer, Shape, ShapeTree, Source, built, composite_returns, fields,
     named, read_shaped,
 };
 
-type DeclareFields = Optional<Value, ()>;
-
-type DeclareShape = ListOf<DeclareFields>;
+type DeclareShape = ListOf<One<Option<Value>, ()>>;
 
 impl Record for Declare {
     type Values = <DeclareShape as Shape>::Value;
@@ -56,9 +54,7 @@ impl RoundTripComposite for Declare {
     }
 }
 
-type DischargeFields = Required<ByteBuf, Optional<bool, ()>>;
-
-type DischargeShape = ListOf<DischargeFields>;
+type DischargeShape = ListOf<One<Of<ByteBuf>, One<Option<bool>, ()>>>;
 
 impl Record for Discharge {
     type Values = <DischargeShape as Shape>::Value;
@@ -115,9 +111,7 @@ impl Discharge {
     }
 }
 
-type DeclaredFields = Required<ByteBuf, ()>;
-
-type DeclaredShape = ListOf<DeclaredFields>;
+type DeclaredShape = ListOf<One<Of<ByteBuf>, ()>>;
 
 impl Record for Declared {
     type Values = <DeclaredShape as Shape>::Value;

@@ -5,20 +5,18 @@ ghost use Rattle.serde_amqp.specs.Derive.{value_or, ◌▸◌, by_parts, after_c
 
 use super::{Multiple, Open, OrderedMap, Symbol, Value};
 use serde_amqp::derive::{
-    Composite, Fault, Global, ListOf, Optional, Record, Required, RoundTripComposite, Serialize,
+    Composite, Fault, Four, Global, ListOf, Of, One, Record, RoundTripComposite, Serialize,
     SerializeCompounds, Serializer, Shape, ShapeTree, Source, built, composite_returns, fields,
     named, read_shaped,
 };
 
-type OpenFields = Required<String, Optional<String, Optional<u32, Optional<u16, OpenFields2>>>>;
+type OpenShape = ListOf<Four<Of<String>, Option<String>, Option<u32>, Option<u16>, Row>>;
 
-type OpenFields2 = Optional<u32, Optional<Multiple<Symbol>, OpenFields3>>;
+type Row = Four<Option<u32>, Kind, Kind, Kind, One<Option<Multiple<Symbol>>, Row2>>;
 
-type OpenFields3 = Optional<Multiple<Symbol>, Optional<Multiple<Symbol>, OpenFields4>>;
+type Row2 = One<Option<OrderedMap<Symbol, Value>>, ()>;
 
-type OpenFields4 = Optional<Multiple<Symbol>, Optional<OrderedMap<Symbol, Value>, ()>>;
-
-type OpenShape = ListOf<OpenFields>;
+type Kind = Option<Multiple<Symbol>>;
 
 impl Record for Open {
     type Values = <OpenShape as Shape>::Value;

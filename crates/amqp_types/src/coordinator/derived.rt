@@ -6,15 +6,13 @@ ghost use Rattle.serde_amqp.specs.Derive.{after_code, first, second};
 
 use super::{AnyTarget, Coordinator, Multiple, Symbol, Target, TxnCapability};
 use serde_amqp::derive::{
-    Composite, Either, Fault, Global, ListOf, Name, Never, OneOfTypes, Optional, PhantomData,
-    Readable, Record, RoundTripComposite, RoundTripReadable, Serialize, SerializeCompounds,
-    Serializer, Shape, ShapeTree, Source, ValueKind, built, composite_returns, fields, named,
-    parts_return, place, read_shaped, read_symbol,
+    Composite, Either, Fault, Global, ListOf, Name, Never, One, OneOfTypes, PhantomData, Readable,
+    Record, RoundTripComposite, RoundTripReadable, Serialize, SerializeCompounds, Serializer,
+    Shape, ShapeTree, Source, ValueKind, built, composite_returns, fields, named, parts_return,
+    place, read_shaped, read_symbol,
 };
 
-type CoordinatorFields = Optional<Multiple<Symbol>, ()>;
-
-type CoordinatorShape = ListOf<CoordinatorFields>;
+type CoordinatorShape = ListOf<One<Option<Multiple<Symbol>>, ()>>;
 
 impl Record for Coordinator {
     type Values = <CoordinatorShape as Shape>::Value;
@@ -125,9 +123,7 @@ impl RoundTripReadable for TxnCapability {
     fn readable_law() {}
 }
 
-type AnyTargetTypes = Either<Target, Either<Coordinator, Never>>;
-
-type AnyTargetShape = OneOfTypes<AnyTargetTypes>;
+type AnyTargetShape = OneOfTypes<Either<Target, Either<Coordinator, Never>>>;
 
 impl Record for AnyTarget {
     ghost use Rattle.amqp_types.specs.declared.coordinator.AnyTarget.TheVariants as variant;

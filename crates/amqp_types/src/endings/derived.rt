@@ -5,14 +5,12 @@ ghost use Rattle.serde_amqp.specs.Derive.{value_or, ◌▸◌, by_parts, after_c
 
 use super::{AmqpError, Close, Detach, End};
 use serde_amqp::derive::{
-    Composite, Fault, Global, ListOf, Optional, Record, Required, RoundTripComposite, Serialize,
+    Composite, Fault, Global, ListOf, Of, One, Record, RoundTripComposite, Serialize,
     SerializeCompounds, Serializer, Shape, ShapeTree, Source, built, composite_returns, fields,
     named, read_shaped,
 };
 
-type DetachFields = Required<u32, Optional<bool, Optional<AmqpError, ()>>>;
-
-type DetachShape = ListOf<DetachFields>;
+type DetachShape = ListOf<One<Of<u32>, One<Option<bool>, One<Option<AmqpError>, ()>>>>;
 
 impl Record for Detach {
     type Values = <DetachShape as Shape>::Value;
@@ -81,9 +79,7 @@ impl Detach {
     }
 }
 
-type EndFields = Optional<AmqpError, ()>;
-
-type EndShape = ListOf<EndFields>;
+type EndShape = ListOf<One<Option<AmqpError>, ()>>;
 
 impl Record for End {
     type Values = <EndShape as Shape>::Value;
@@ -127,9 +123,7 @@ impl RoundTripComposite for End {
     }
 }
 
-type CloseFields = Optional<AmqpError, ()>;
-
-type CloseShape = ListOf<CloseFields>;
+type CloseShape = ListOf<One<Option<AmqpError>, ()>>;
 
 impl Record for Close {
     type Values = <CloseShape as Shape>::Value;

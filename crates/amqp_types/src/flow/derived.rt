@@ -5,20 +5,16 @@ ghost use Rattle.serde_amqp.specs.Derive.{value_or, ◌▸◌, by_parts, after_c
 
 use super::{Flow, OrderedMap, Symbol, Value};
 use serde_amqp::derive::{
-    Composite, Fault, Global, ListOf, Optional, Record, Required, RoundTripComposite, Serialize,
+    Composite, Fault, Four, Global, ListOf, Of, One, Record, RoundTripComposite, Serialize,
     SerializeCompounds, Serializer, Shape, ShapeTree, Source, built, composite_returns, fields,
     named, read_shaped,
 };
 
-type FlowFields = Optional<u32, Required<u32, Required<u32, Required<u32, FlowFields2>>>>;
+type FlowShape = ListOf<Four<Option<u32>, Of<u32>, Of<u32>, Of<u32>, Row>>;
 
-type FlowFields2 = Optional<u32, Optional<u32, Optional<u32, Optional<u32, FlowFields3>>>>;
+type Row = Four<Option<u32>, Option<u32>, Option<u32>, Option<u32>, One<Option<bool>, Row2>>;
 
-type FlowFields3 = Optional<bool, Optional<bool, FlowFields4>>;
-
-type FlowFields4 = Optional<OrderedMap<Symbol, Value>, ()>;
-
-type FlowShape = ListOf<FlowFields>;
+type Row2 = One<Option<bool>, One<Option<OrderedMap<Symbol, Value>>, ()>>;
 
 impl Record for Flow {
     type Values = <FlowShape as Shape>::Value;

@@ -201,13 +201,11 @@ impl RoundTripComposite for DeleteOnNoLinksOrMessages {
     }
 }
 
-type LifetimePolicyTypes = Either<DeleteOnClose, Either<DeleteOnNoLinks, LifetimePolicyTypes2>>;
+type LifetimePolicyShape = OneOfTypes<Either<DeleteOnClose, LifetimePolicyTypes>>;
 
-type LifetimePolicyTypes2 = Either<DeleteOnNoMessages, LifetimePolicyTypes3>;
+type LifetimePolicyTypes = Either<DeleteOnNoLinks, LifetimePolicyTypes2>;
 
-type LifetimePolicyTypes3 = Either<DeleteOnNoLinksOrMessages, Never>;
-
-type LifetimePolicyShape = OneOfTypes<LifetimePolicyTypes>;
+type LifetimePolicyTypes2 = Either<DeleteOnNoMessages, Either<DeleteOnNoLinksOrMessages, Never>>;
 
 impl Record for LifetimePolicy {
     ghost use Rattle.amqp_types.specs.declared.lifetime.LifetimePolicy.TheVariants as variant;

@@ -8,26 +8,20 @@ use super::{
     SenderSettleMode, Source, Symbol, Value,
 };
 use serde_amqp::derive::{
-    Composite, Fault, Global, ListOf, Optional, Record, Required, RoundTripComposite, Serialize,
+    Composite, Fault, Four, Global, ListOf, Of, One, Record, RoundTripComposite, Serialize,
     SerializeCompounds, Serializer, Shape, ShapeTree, built, composite_returns, fields, named,
     read_shaped,
 };
 
-type AttachFields = Required<String, Required<u32, Required<Role, AttachFields2>>>;
+type AttachShape = ListOf<Four<Of<String>, Of<u32>, Of<Role>, Option<SenderSettleMode>, Row>>;
 
-type AttachFields2 = Optional<SenderSettleMode, Optional<ReceiverSettleMode, AttachFields3>>;
+type Row = Four<Option<ReceiverSettleMode>, Option<Source>, Option<AnyTarget>, Kind, Row2>;
 
-type AttachFields3 = Optional<Source, Optional<AnyTarget, AttachFields4>>;
+type Row2 = Four<Option<bool>, Option<u32>, Option<u64>, Option<Multiple<Symbol>>, Row3>;
 
-type AttachFields4 = Optional<OrderedMap<ByteBuf, Option<DeliveryState>>, AttachFields5>;
+type Row3 = One<Option<Multiple<Symbol>>, One<Option<OrderedMap<Symbol, Value>>, ()>>;
 
-type AttachFields5 = Optional<bool, Optional<u32, Optional<u64, AttachFields6>>>;
-
-type AttachFields6 = Optional<Multiple<Symbol>, Optional<Multiple<Symbol>, AttachFields7>>;
-
-type AttachFields7 = Optional<OrderedMap<Symbol, Value>, ()>;
-
-type AttachShape = ListOf<AttachFields>;
+type Kind = Option<OrderedMap<ByteBuf, Option<DeliveryState>>>;
 
 impl Record for Attach {
     type Values = <AttachShape as Shape>::Value;

@@ -11,13 +11,11 @@ use serde_amqp::derive::{
     Serializer, Shape, ShapeTree, Source, parts_return, place, read_shaped,
 };
 
-type PerformativeTypes = Either<Open, Either<Begin, Either<Attach, PerformativeTypes2>>>;
+type PerformativeShape = OneOfTypes<Either<Open, Either<Begin, PerformativeTypes>>>;
 
-type PerformativeTypes2 = Either<Flow, Either<Transfer, Either<Disposition, PerformativeTypes3>>>;
+type PerformativeTypes = Either<Attach, Either<Flow, Either<Transfer, PerformativeTypes2>>>;
 
-type PerformativeTypes3 = Either<Detach, Either<End, Either<Close, Unknown>>>;
-
-type PerformativeShape = OneOfTypes<PerformativeTypes>;
+type PerformativeTypes2 = Either<Disposition, Either<Detach, Either<End, Either<Close, Unknown>>>>;
 
 impl Record for Performative {
     ghost use Rattle.amqp_types.specs.declared.performative.Performative.TheVariants as variant;

@@ -5,14 +5,12 @@ ghost use Rattle.serde_amqp.specs.Derive.{◌▸◌, by_parts, after_code};
 
 use super::{ByteBuf, Multiple, SaslChallenge, SaslInit, SaslMechanisms, SaslResponse, Symbol};
 use serde_amqp::derive::{
-    Composite, Fault, Global, ListOf, Optional, Record, Required, RoundTripComposite, Serialize,
+    Composite, Fault, Global, ListOf, Of, One, Record, RoundTripComposite, Serialize,
     SerializeCompounds, Serializer, Shape, ShapeTree, Source, built, composite_returns, fields,
     named, read_shaped,
 };
 
-type SaslMechanismsFields = Required<Multiple<Symbol>, ()>;
-
-type SaslMechanismsShape = ListOf<SaslMechanismsFields>;
+type SaslMechanismsShape = ListOf<One<Of<Multiple<Symbol>>, ()>>;
 
 impl Record for SaslMechanisms {
     type Values = <SaslMechanismsShape as Shape>::Value;
@@ -72,9 +70,7 @@ impl SaslMechanisms {
     }
 }
 
-type SaslInitFields = Required<Symbol, Optional<ByteBuf, Optional<String, ()>>>;
-
-type SaslInitShape = ListOf<SaslInitFields>;
+type SaslInitShape = ListOf<One<Of<Symbol>, One<Option<ByteBuf>, One<Option<String>, ()>>>>;
 
 impl Record for SaslInit {
     type Values = <SaslInitShape as Shape>::Value;
@@ -138,9 +134,7 @@ impl SaslInit {
     }
 }
 
-type SaslChallengeFields = Required<ByteBuf, ()>;
-
-type SaslChallengeShape = ListOf<SaslChallengeFields>;
+type SaslChallengeShape = ListOf<One<Of<ByteBuf>, ()>>;
 
 impl Record for SaslChallenge {
     type Values = <SaslChallengeShape as Shape>::Value;
@@ -195,9 +189,7 @@ impl SaslChallenge {
     }
 }
 
-type SaslResponseFields = Required<ByteBuf, ()>;
-
-type SaslResponseShape = ListOf<SaslResponseFields>;
+type SaslResponseShape = ListOf<One<Of<ByteBuf>, ()>>;
 
 impl Record for SaslResponse {
     type Values = <SaslResponseShape as Shape>::Value;

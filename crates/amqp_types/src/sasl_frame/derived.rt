@@ -11,13 +11,9 @@ use serde_amqp::derive::{
     Serializer, Shape, ShapeTree, Source, parts_return, place, read_shaped,
 };
 
-type SaslFrameTypes = Either<SaslMechanisms, Either<SaslInit, SaslFrameTypes2>>;
+type SaslFrameShape = OneOfTypes<Either<SaslMechanisms, Either<SaslInit, SaslFrameTypes>>>;
 
-type SaslFrameTypes2 = Either<SaslChallenge, Either<SaslResponse, SaslFrameTypes3>>;
-
-type SaslFrameTypes3 = Either<SaslOutcome, Unknown>;
-
-type SaslFrameShape = OneOfTypes<SaslFrameTypes>;
+type SaslFrameTypes = Either<SaslChallenge, Either<SaslResponse, Either<SaslOutcome, Unknown>>>;
 
 impl Record for SaslFrame {
     ghost use Rattle.amqp_types.specs.declared.sasl_frame.SaslFrame.TheVariants as variant;

@@ -5,14 +5,12 @@ ghost use Rattle.serde_amqp.specs.Derive.{scalar, ubyte, ◌▸◌, by_parts, by
 
 use super::{ByteBuf, SaslCode, SaslOutcome};
 use serde_amqp::derive::{
-    Composite, Fault, Global, ListOf, Optional, Readable, Record, Required, RoundTripComposite,
+    Composite, Fault, Global, ListOf, Of, One, Readable, Record, RoundTripComposite,
     RoundTripReadable, Serialize, SerializeCompounds, Serializer, Shape, ShapeTree, Source,
     ValueKind, built, composite_returns, fields, named, read_shaped,
 };
 
-type SaslOutcomeFields = Required<SaslCode, Optional<ByteBuf, ()>>;
-
-type SaslOutcomeShape = ListOf<SaslOutcomeFields>;
+type SaslOutcomeShape = ListOf<One<Of<SaslCode>, One<Option<ByteBuf>, ()>>>;
 
 impl Record for SaslOutcome {
     type Values = <SaslOutcomeShape as Shape>::Value;

@@ -5,18 +5,16 @@ ghost use Rattle.serde_amqp.specs.Derive.{value_or, ◌▸◌, by_parts, after_c
 
 use super::{Begin, Multiple, OrderedMap, Symbol, Value};
 use serde_amqp::derive::{
-    Composite, Fault, Global, ListOf, Optional, Record, Required, RoundTripComposite, Serialize,
+    Composite, Fault, Four, Global, ListOf, Of, Record, RoundTripComposite, Serialize,
     SerializeCompounds, Serializer, Shape, ShapeTree, Source, built, composite_returns, fields,
     named, read_shaped,
 };
 
-type BeginFields = Optional<u16, Required<u32, Required<u32, Required<u32, BeginFields2>>>>;
+type BeginShape = ListOf<Four<Option<u16>, Of<u32>, Of<u32>, Of<u32>, Row>>;
 
-type BeginFields2 = Optional<u32, Optional<Multiple<Symbol>, BeginFields3>>;
+type Row = Four<Option<u32>, Option<Multiple<Symbol>>, Option<Multiple<Symbol>>, Kind, ()>;
 
-type BeginFields3 = Optional<Multiple<Symbol>, Optional<OrderedMap<Symbol, Value>, ()>>;
-
-type BeginShape = ListOf<BeginFields>;
+type Kind = Option<OrderedMap<Symbol, Value>>;
 
 impl Record for Begin {
     type Values = <BeginShape as Shape>::Value;

@@ -8,24 +8,22 @@ use super::{
     TerminusExpiryPolicy, Value,
 };
 use serde_amqp::derive::{
-    Composite, Fault, Global, ListOf, Optional, Record, RoundTripComposite, Serialize,
+    Composite, Fault, Four, Global, ListOf, One, Record, RoundTripComposite, Serialize,
     SerializeCompounds, Serializer, Shape, ShapeTree, built, composite_returns, fields, named,
     read_shaped,
 };
 
-type SourceFields = Optional<Address, Optional<TerminusDurability, SourceFields2>>;
+type SourceShape = ListOf<Row>;
 
-type SourceFields2 = Optional<TerminusExpiryPolicy, Optional<u32, Optional<bool, SourceFields3>>>;
+type Row = Four<Option<Address>, Option<TerminusDurability>, Kind, Option<u32>, Row2>;
 
-type SourceFields3 = Optional<OrderedMap<Symbol, Value>, SourceFields4>;
+type Row2 = Four<Option<bool>, Kind2, Option<DistributionMode>, Kind2, Row3>;
 
-type SourceFields4 = Optional<DistributionMode, SourceFields5>;
+type Row3 = One<Option<Outcome>, One<Option<Multiple<Symbol>>, One<Option<Multiple<Symbol>>, ()>>>;
 
-type SourceFields5 = Optional<OrderedMap<Symbol, Value>, Optional<Outcome, SourceFields6>>;
+type Kind = Option<TerminusExpiryPolicy>;
 
-type SourceFields6 = Optional<Multiple<Symbol>, Optional<Multiple<Symbol>, ()>>;
-
-type SourceShape = ListOf<SourceFields>;
+type Kind2 = Option<OrderedMap<Symbol, Value>>;
 
 impl Record for Source {
     type Values = <SourceShape as Shape>::Value;

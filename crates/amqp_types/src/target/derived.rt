@@ -7,20 +7,20 @@ use super::{
     Address, Multiple, OrderedMap, Symbol, Target, TerminusDurability, TerminusExpiryPolicy, Value,
 };
 use serde_amqp::derive::{
-    Composite, Fault, Global, ListOf, Optional, Record, RoundTripComposite, Serialize,
+    Composite, Fault, Four, Global, ListOf, One, Record, RoundTripComposite, Serialize,
     SerializeCompounds, Serializer, Shape, ShapeTree, Source, built, composite_returns, fields,
     named, read_shaped,
 };
 
-type TargetFields = Optional<Address, Optional<TerminusDurability, TargetFields2>>;
+type TargetShape = ListOf<Row>;
 
-type TargetFields2 = Optional<TerminusExpiryPolicy, Optional<u32, Optional<bool, TargetFields3>>>;
+type Row = Four<Option<Address>, Option<TerminusDurability>, Kind, Option<u32>, Row2>;
 
-type TargetFields3 = Optional<OrderedMap<Symbol, Value>, TargetFields4>;
+type Row2 = One<Option<bool>, One<Option<OrderedMap<Symbol, Value>>, Row3>>;
 
-type TargetFields4 = Optional<Multiple<Symbol>, ()>;
+type Row3 = One<Option<Multiple<Symbol>>, ()>;
 
-type TargetShape = ListOf<TargetFields>;
+type Kind = Option<TerminusExpiryPolicy>;
 
 impl Record for Target {
     type Values = <TargetShape as Shape>::Value;

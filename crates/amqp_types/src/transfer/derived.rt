@@ -5,20 +5,18 @@ ghost use Rattle.serde_amqp.specs.Derive.{value_or, ◌▸◌, by_parts, after_c
 
 use super::{ByteBuf, DeliveryState, Disposition, ReceiverSettleMode, Role, Transfer};
 use serde_amqp::derive::{
-    Composite, Fault, Global, ListOf, Optional, Record, Required, RoundTripComposite, Serialize,
+    Composite, Fault, Four, Global, ListOf, Of, One, Record, RoundTripComposite, Serialize,
     SerializeCompounds, Serializer, Shape, ShapeTree, Source, built, composite_returns, fields,
     named, read_shaped,
 };
 
-type TransferFields = Required<u32, Optional<u32, Optional<ByteBuf, TransferFields2>>>;
+type TransferShape = ListOf<Four<Of<u32>, Option<u32>, Option<ByteBuf>, Option<u32>, Row>>;
 
-type TransferFields2 = Optional<u32, Optional<bool, Optional<bool, TransferFields3>>>;
+type Row = Four<Option<bool>, Option<bool>, Kind, Option<DeliveryState>, One<Option<bool>, Row2>>;
 
-type TransferFields3 = Optional<ReceiverSettleMode, Optional<DeliveryState, TransferFields4>>;
+type Row2 = One<Option<bool>, One<Option<bool>, ()>>;
 
-type TransferFields4 = Optional<bool, Optional<bool, Optional<bool, ()>>>;
-
-type TransferShape = ListOf<TransferFields>;
+type Kind = Option<ReceiverSettleMode>;
 
 impl Record for Transfer {
     type Values = <TransferShape as Shape>::Value;
@@ -129,13 +127,9 @@ impl Transfer {
     }
 }
 
-type DispositionFields = Required<Role, Required<u32, Optional<u32, DispositionFields2>>>;
+type DispositionShape = ListOf<Four<Of<Role>, Of<u32>, Option<u32>, Option<bool>, Row3>>;
 
-type DispositionFields2 = Optional<bool, Optional<DeliveryState, DispositionFields3>>;
-
-type DispositionFields3 = Optional<bool, ()>;
-
-type DispositionShape = ListOf<DispositionFields>;
+type Row3 = One<Option<DeliveryState>, One<Option<bool>, ()>>;
 
 impl Record for Disposition {
     type Values = <DispositionShape as Shape>::Value;

@@ -6,30 +6,30 @@ use Rattle.amqp_de.proofs.field.read_entries.Goals as goal
 pub returns-in-Err-clause-err : goal.returns-in-Err-clause-err
 returns-in-Err-clause-err g c w =
     elim (c.in-Err.ensures.err w) [
-      | inl (t, at, (why, law)) ↦ elim why [ inl m ↦ inl m | inr none ↦ inr (named_first g.F.Field.absent c.args.name.now g.F.Field.reads (g.R.FieldSeeds.reads c.args.others.now) _ t at none) ]
-      | inr (e, must) ↦ inr (named_missing g.F.Field.absent c.args.name.now g.F.Field.reads (g.R.FieldSeeds.reads c.args.others.now) _ e (λ x. (must x).0))
+      | inl (t, at, (why, law)) ↦ elim why [ inl m ↦ inl m | inr none ↦ inr (named_first g.F.FieldKind.absent c.args.name.now g.F.FieldKind.reads (g.R.FieldSeeds.reads c.args.others.now) _ t at none) ]
+      | inr (e, must) ↦ inr (named_missing g.F.FieldKind.absent c.args.name.now g.F.FieldKind.reads (g.R.FieldSeeds.reads c.args.others.now) _ e (λ x. (must x).0))
     ]
 
 pub returns-in-Err-clause-law : goal.returns-in-Err-clause-law
 returns-in-Err-clause-law g c x p d e w =
     elim (c.in-Err.ensures.err w) [
-      | inl (t, at, (why, law)) ↦ law x.value p.0 (present_value c.args.name.now (g.F.Field.present x.value) (g.F.Field.image x.value) (g.R.FieldSeeds.names c.args.others.now) (g.R.FieldSeeds.images x.rest) _ t d e at)
-      | inr (none, must) ↦ absurd (true≢false (sym (must x.value).1 ∙ not_present c.args.name.now (g.F.Field.present x.value) (g.F.Field.image x.value) (g.R.FieldSeeds.names c.args.others.now) (g.R.FieldSeeds.images x.rest) _ e none))
+      | inl (t, at, (why, law)) ↦ law x.value p.0 (present_value c.args.name.now (g.F.FieldKind.present x.value) (g.F.FieldKind.image x.value) (g.R.FieldSeeds.names c.args.others.now) (g.R.FieldSeeds.images x.rest) _ t d e at)
+      | inr (none, must) ↦ absurd (true≢false (sym (must x.value).1 ∙ not_present c.args.name.now (g.F.FieldKind.present x.value) (g.F.FieldKind.image x.value) (g.R.FieldSeeds.names c.args.others.now) (g.R.FieldSeeds.images x.rest) _ e none))
     ]
 
 pub returns-in-Ok-read_entries-clause-ok : goal.returns-in-Ok-read_entries-clause-ok
 returns-in-Ok-read_entries-clause-ok g c =
-    named_taken g.F.Field.absent c.args.name.now g.F.Field.reads (g.R.FieldSeeds.reads c.args.others.now) g.F.Field.present g.F.Field.image g.F.Field.restorable g.F.Field.same g.R.FieldSeeds.images g.R.FieldSeeds.restorable g.R.FieldSeeds.same c.law.ensures
+    named_taken g.F.FieldKind.absent c.args.name.now g.F.FieldKind.reads (g.R.FieldSeeds.reads c.args.others.now) g.F.FieldKind.present g.F.FieldKind.image g.F.FieldKind.restorable g.F.FieldKind.same g.R.FieldSeeds.images g.R.FieldSeeds.restorable g.R.FieldSeeds.same c.law.ensures
     (g.R.FieldSeeds.names c.args.others.now) g.S.Source.needs g.S.Source.only c.named_value.ensures.needs c.named_value.ensures.enough
     (g.S.Source.holds_pairs c.args.entries) _ c.in-Ok.value c.in-Ok-read_entries.rest c.in-Ok.ensures.ok c.in-Ok-read_entries.ensures.ok
 
 pub returns-in-Err-read_entries-clause-err : goal.returns-in-Err-read_entries-clause-err
 returns-in-Err-read_entries-clause-err g c w =
     let (are, after) = c.in-Ok.ensures.whole w in
-    elim (c.in-Err-read_entries.ensures.err are) [ inl m ↦ inl m | inr none ↦ inr (named_refused g.F.Field.absent c.args.name.now g.F.Field.reads (g.R.FieldSeeds.reads c.args.others.now) _ _ after none) ]
+    elim (c.in-Err-read_entries.ensures.err are) [ inl m ↦ inl m | inr none ↦ inr (named_refused g.F.FieldKind.absent c.args.name.now g.F.FieldKind.reads (g.R.FieldSeeds.reads c.args.others.now) _ _ after none) ]
 
 pub returns-in-Err-read_entries-clause-law : goal.returns-in-Err-read_entries-clause-law
 returns-in-Err-read_entries-clause-law g c x p d e w =
     let (are, after) = c.in-Ok.ensures.whole w in
     c.in-Err-read_entries.ensures.law x.rest p.1 (others_distinct c.args.name.now (g.R.FieldSeeds.names c.args.others.now) d)
-    (rest_there c.args.name.now (g.F.Field.present x.value) (g.F.Field.image x.value) (g.R.FieldSeeds.names c.args.others.now) (g.R.FieldSeeds.images x.rest) _ _ d e after) are
+    (rest_there c.args.name.now (g.F.FieldKind.present x.value) (g.F.FieldKind.image x.value) (g.R.FieldSeeds.names c.args.others.now) (g.R.FieldSeeds.images x.rest) _ _ d e after) are

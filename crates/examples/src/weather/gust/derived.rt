@@ -5,14 +5,12 @@ ghost use Rattle.serde_amqp.specs.Derive.{◌▸◌, by_parts, tree_by_parts};
 
 use super::Gust;
 use serde_amqp::derive::{
-    AfterCode, Fault, Global, ListOf, Optional, Readable, Record, Required, RoundTripReadable,
-    Serialize, SerializeCompounds, Serializer, Shape, ShapeTree, Source, built, fields, named,
-    parts_return, read_shaped,
+    AfterCode, Fault, Global, ListOf, Of, One, Readable, Record, RoundTripReadable, Serialize,
+    SerializeCompounds, Serializer, Shape, ShapeTree, Source, built, fields, named, parts_return,
+    read_shaped,
 };
 
-type GustFields = Required<u32, Optional<u16, Optional<u16, ()>>>;
-
-type GustShape = AfterCode<ListOf<GustFields>, 0x17>;
+type GustShape = AfterCode<ListOf<One<Of<u32>, One<Option<u16>, One<Option<u16>, ()>>>>, 0x17>;
 
 impl Record for Gust {
     type Values = <GustShape as Shape>::Value;

@@ -5,14 +5,12 @@ ghost use Rattle.serde_amqp.specs.Derive.{value_or, ◌▸◌, by_parts, tree_by
 
 use super::{Hour, Pressure};
 use serde_amqp::derive::{
-    AfterCode, Composite, Fault, Global, ListOf, Optional, Readable, Record, Required,
+    AfterCode, Composite, Fault, Four, Global, ListOf, Of, One, Readable, Record,
     RoundTripComposite, RoundTripReadable, Serialize, SerializeCompounds, Serializer, Shape,
     ShapeTree, Source, built, composite_returns, fields, named, parts_return, read_shaped,
 };
 
-type PressureFields = Required<u32, ()>;
-
-type PressureShape = AfterCode<ListOf<PressureFields>, 0x30>;
+type PressureShape = AfterCode<ListOf<One<Of<u32>, ()>>, 0x30>;
 
 impl Record for Pressure {
     type Values = <PressureShape as Shape>::Value;
@@ -48,13 +46,9 @@ impl RoundTripReadable for Pressure {
     }
 }
 
-type HourFields = Required<u32, Required<u16, Required<i32, Optional<u32, HourFields2>>>>;
+type HourShape = ListOf<Four<Of<u32>, Of<u16>, Of<i32>, Option<u32>, Row>>;
 
-type HourFields2 = Optional<u8, Optional<bool, Optional<String, Optional<u16, HourFields3>>>>;
-
-type HourFields3 = Optional<u32, ()>;
-
-type HourShape = ListOf<HourFields>;
+type Row = Four<Option<u8>, Option<bool>, Option<String>, Option<u16>, One<Option<u32>, ()>>;
 
 impl Record for Hour {
     type Values = <HourShape as Shape>::Value;

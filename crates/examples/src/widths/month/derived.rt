@@ -5,28 +5,26 @@ ghost use Rattle.serde_amqp.specs.Derive.{value_or, ◌▸◌, by_parts, tree_by
 
 use super::Month;
 use serde_amqp::derive::{
-    AfterCode, Fault, Global, ListOf, Optional, Readable, Record, Required, RoundTripReadable,
-    Serialize, SerializeCompounds, Serializer, Shape, ShapeTree, Source, built, fields, named,
-    parts_return, read_shaped,
+    AfterCode, Fault, Four, Global, ListOf, Of, Readable, Record, RoundTripReadable, Serialize,
+    SerializeCompounds, Serializer, Shape, ShapeTree, Source, built, fields, named, parts_return,
+    read_shaped,
 };
 
-type MonthFields = Required<String, Required<u32, Required<u32, Required<u32, MonthFields2>>>>;
+type MonthShape = AfterCode<ListOf<Four<Of<String>, Of<u32>, Of<u32>, Of<u32>, Row>>, 0x33>;
 
-type MonthFields2 = Required<u32, Required<u32, Required<u32, Required<u32, MonthFields3>>>>;
+type Row = Four<Of<u32>, Of<u32>, Of<u32>, Of<u32>, Row2>;
 
-type MonthFields3 = Required<u32, Required<u32, Required<u32, Required<u32, MonthFields4>>>>;
+type Row2 = Four<Of<u32>, Of<u32>, Of<u32>, Of<u32>, Row3>;
 
-type MonthFields4 = Required<u32, Required<u32, Required<u32, Required<u32, MonthFields5>>>>;
+type Row3 = Four<Of<u32>, Of<u32>, Of<u32>, Of<u32>, Row4>;
 
-type MonthFields5 = Required<u32, Required<u32, Required<u32, Required<u32, MonthFields6>>>>;
+type Row4 = Four<Of<u32>, Of<u32>, Of<u32>, Of<u32>, Row5>;
 
-type MonthFields6 = Required<u32, Required<u32, Required<u32, Required<u32, MonthFields7>>>>;
+type Row5 = Four<Of<u32>, Of<u32>, Of<u32>, Of<u32>, Row6>;
 
-type MonthFields7 = Required<u32, Required<u32, Required<u32, Required<u32, MonthFields8>>>>;
+type Row6 = Four<Of<u32>, Of<u32>, Of<u32>, Of<u32>, Row7>;
 
-type MonthFields8 = Required<u32, Optional<u32, Optional<u32, Optional<u32, ()>>>>;
-
-type MonthShape = AfterCode<ListOf<MonthFields>, 0x33>;
+type Row7 = Four<Of<u32>, Option<u32>, Option<u32>, Option<u32>, ()>;
 
 impl Record for Month {
     type Values = <MonthShape as Shape>::Value;
