@@ -1,16 +1,11 @@
 -- Fields that have a default, which is read if the field is absent or null
 -- (AMQP 1.0 part 1, section 1.4).
-use Rattle.std.specs.Prelude.{◌≡◌, ◌⊎◌, ℕ, List, Option, Some, None}
+use Rattle.std.specs.Prelude.{◌≡◌, ◌⊎◌, Option, Some, None}
 use Rattle.amqp_ser.specs.Tree.{Tree, scalar, null}
-use Rattle.amqp_de.specs.Fields.{FieldSource, ReadsField}
 
 -- Null is read as the default, and any other tree as a value.
 unfoldable pub ReadsOr : {T : Type 0} → T → (Tree → T → Type 0) → Tree → T → Type 0
 ReadsOr d R t x = ((t ≡ scalar null) × (x ≡ d)) ⊎ ((¬ (t ≡ scalar null)) × R t x)
-
--- A field with a default, and the fields after it.
-abbrev pub ReadsDefaulted : {T : Type 0} → List ℕ → T → (Tree → T → Type 0) → T → (FieldSource → Type 0) → FieldSource → Type 0
-ReadsDefaulted n d R x K = ReadsField (λ y. y ≡ d) n (ReadsOr d R) x K
 
 -- A value whose image is null is not restorable, because null is read as the default.
 abbrev pub RestorableDefaulted : {T : Type 0} → (T → Tree) → (T → Type 0) → T → Type 0

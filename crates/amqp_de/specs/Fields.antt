@@ -3,7 +3,6 @@
 use Rattle.std.specs.Prelude.{◌≡◌, ℕ, List, [], ◌∷◌, Option, Some, None, Bool, false, bytes_eq, if◌then◌else◌}
 use Rattle.amqp_ser.specs.Tree.{Scalar, string, Descriptor, Tree, scalar, list, array, map, described}
 use Rattle.amqp_de.specs.Values.{elements_in, entries_in}
-use Rattle.amqp_de.specs.Reads.{ReadsOption}
 
 -- The scalar is the string with this text.
 abbrev pub is_text : List ℕ → Scalar → Bool
@@ -49,10 +48,6 @@ ReadsField Absent n R x K (by_name es) = ReadsIfPresent Absent R (value_at n es)
 -- A required field, and the fields after it.
 abbrev pub ReadsRequired : {T : Type 0} → List ℕ → (Tree → T → Type 0) → T → (FieldSource → Type 0) → FieldSource → Type 0
 ReadsRequired n R x K = ReadsField (λ _. ⊥) n R x K
-
--- An optional field, which may be absent or null, and the fields after it.
-abbrev pub ReadsOptional : {T : Type 0} → List ℕ → (Tree → T → Type 0) → Option T → (FieldSource → Type 0) → FieldSource → Type 0
-ReadsOptional n R x K = ReadsField (λ y. y ≡ None) n (ReadsOption R) x K
 
 -- No more fields. Further elements or entries are ignored.
 unfoldable pub NoMoreFields : FieldSource → Type 0

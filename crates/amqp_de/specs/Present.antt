@@ -1,15 +1,11 @@
 -- Fields that may be absent: whether each is present, and its image (AMQP 1.0 part 1, section 1.4).
-use Rattle.std.specs.Prelude.{◌≡◌, ◌⊎◌, ℕ, List, [], ◌∷◌, Option, Bool, true, false, not, ◌||◌, ◌&&◌, if◌then◌else◌, is_some, bytes_eq}
+use Rattle.std.specs.Prelude.{◌≡◌, ◌⊎◌, ℕ, List, [], ◌∷◌, Bool, true, false, not, ◌||◌, ◌&&◌, if◌then◌else◌, bytes_eq}
 use Rattle.amqp_ser.specs.Tree.{Tree, scalar, string, list, map, trees_of}
 use Rattle.amqp_value.specs.TreeOf.{pairs_of}
-use Rattle.amqp_de.specs.Reads.{image_option}
 
--- A required field, which is always present, and an optional one.
+-- A required field, which is always present.
 abbrev pub required : Tree → Bool × Tree
 required t = (true, t)
-
-abbrev pub optional : {T : Type 0} → (T → Tree) → Option T → Bool × Tree
-optional image o = (is_some o, image_option image o)
 
 -- The images of all fields, including absent ones.
 abbrev pub all_images : List (Bool × Tree) → List Tree
