@@ -4,7 +4,9 @@ mod derived;
 
 use crate::lists::Place;
 use serde_amqp::Value;
-use serde_amqp::primitives::{Array, ByteBuf, F32Bits, F64Bits, OrderedMap, Symbol, Timestamp, Uuid};
+use serde_amqp::primitives::{
+    Array, ByteBuf, F32Bits, F64Bits, OrderedMap, Symbol, Timestamp, Uuid,
+};
 
 /// A list of 20 fields.
 // amqp: encoding = "list", code = 0x14, name = "test:order", rename_all = "kebab-case", new
