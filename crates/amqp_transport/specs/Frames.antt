@@ -1,6 +1,6 @@
 -- Transport frames: a header of eight bytes, an extended header, and a body (AMQP 1.0 part 2, section
 -- 2.3.1).
-use Rattle.std.specs.Prelude.{◌≡◌, ◌≤◌, ◌<◌, ◌*◌, ◌+◌, ◌⊎◌, ℕ, List, ◌∷◌, ◌++◌, length, Option, Some, None}
+use Rattle.std.specs.Prelude.{◌≡◌, ◌≤◌, ◌<◌, ◌*◌, ◌+◌, ◌⊎◌, ℕ, List, ◌∷◌, ◌++◌, length, Option, Some, None, Err}
 use Rattle.std.specs.Int.{w16, w32, to_be_bytes}
 use Rattle.amqp_data.specs.declared.error.Error.TheVariants.{OutOfMemory}
 use Rattle.amqp_frame.specs.EncodedValue.{IsEncodedValue, HasEncodedValue}
@@ -8,6 +8,7 @@ use Rattle.amqp_from_value.specs.Limited.{ReadsAllowed, limits_for}
 use Rattle.amqp_from_value.specs.LocatedErrors.{IsLocatedWithin, error_in}
 use Rattle.amqp_from_value.specs.declared.limited.Limits.{Limits}
 use Rattle.amqp_ser.specs.Encoding.{encoding}
+use Rattle.amqp_ser.specs.SizeAndBytes.{AreBytesOf}
 use Rattle.amqp_ser.specs.Tree.{Tree}
 use Rattle.amqp_transport.specs.declared.error.FrameError.{FrameError}
 use Rattle.amqp_transport.specs.declared.error.FrameError.TheVariants as error
@@ -74,6 +75,13 @@ IsFrameWith limit kind channel (Some t) payload s =
 abbrev pub ExceedsFrame : ℕ → Option Tree → ℕ → Type 0
 ExceedsFrame limit None payload = ⊥
 ExceedsFrame limit (Some t) payload = limit < frame_size (length (encoding t)) payload
+
+-- Why no frame is written with the encoding of the tree and a payload of this length: it is longer
+-- than `limit`, `to_vec` refuses the tree, or an allocation failed.
+abbrev pub RefusesToWrite : ℕ → Option Tree → ℕ → FrameError → Type 0
+RefusesToWrite limit t payload error.TooLong = ExceedsFrame limit t payload
+RefusesToWrite limit t payload (error.Value e) = AreBytesOf t (Err e)
+RefusesToWrite limit t payload e = ⊥
 
 -- The id of a protocol (section 2.2, and part 5, sections 5.2.1 and 5.3.2).
 abbrev pub protocol_id : Protocol → ℕ

@@ -1,7 +1,7 @@
 //! Takes frames off a reader.
 
-ghost use Rattle.std.specs.Prelude.{◌≡◌, ◌≤◌, IfOk, IfSome, OnOk, length};
-ghost use Rattle.std.specs.Io.KnownBytes.{Consumes};
+ghost use Rattle.std.specs.Prelude.{◌≡◌, ◌≤◌, IfOk, IfNone, IfSome, OnOk, length};
+ghost use Rattle.std.specs.Io.KnownBytes.{Consumes, IsAtEnd, Keeps};
 ghost use Rattle.amqp_frame.specs.Taking.{Moves};
 ghost use Rattle.amqp_transport.specs.Frames.{Begins};
 
@@ -29,6 +29,7 @@ const PIECE: usize = 4096;
 ///
 /// # Example
 /// From `0000000c020000030053174500`, takes the frame `0000000c0200000300531745`, and `00` remains.
+#[tactic(auto, using(crate::proofs::FrameLemmas::at_end))]
 pub fn read_frame<R: Read>(
     alloc: Global,
     reader: &mut R,
@@ -38,6 +39,8 @@ pub fn read_frame<R: Read>(
         Consumes (R.left reader.old) (R.left reader.new) frame.items)) }
     ensures whole { IfOk result (λ found. IfSome found (λ frame.
         Begins (λ size _. (length frame.items ≡ size) × (size ≤ limit)) frame.items)) }
+    ensures end { IfOk result (λ found. IfNone found (IsAtEnd (R.left reader.old)
+        × Keeps (R.left reader.old) (R.left reader.new))) }
 {
     if reader.peek()?.is_none() {
         return Ok(None);

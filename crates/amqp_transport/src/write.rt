@@ -1,7 +1,7 @@
 //! Writes frames.
 
 ghost use Rattle.std.specs.Prelude.{◌≡◌, ◌≤◌, ◌<◌, ℕ, IfOk, IfErr, IfSome, length};
-ghost use Rattle.amqp_transport.specs.Frames.{frame_size, ExceedsFrame, IsFrameWith};
+ghost use Rattle.amqp_transport.specs.Frames.{frame_size, IsFrameWith, RefusesToWrite};
 ghost use Rattle.amqp_transport.specs.declared.error.FrameError.TheVariants.{TooLong};
 
 use crate::error::FrameError;
@@ -33,8 +33,8 @@ pub fn frame_to_vec<T: Serialize>(
 ) -> Result<Vec<u8>, FrameError>
     ensures ok { IfOk result (λ v.
         IsFrameWith limit kind channel (T.tree performative.now) payload.now v.items) }
-    ensures too_long { IfErr result (λ e. e ≡ TooLong →
-        ExceedsFrame limit (T.tree performative.now) (length payload.now)) }
+    ensures refused { IfErr result
+        (RefusesToWrite limit (T.tree performative.now) (length payload.now)) }
 {
     let (len, hints) = measure(Hints::with_memory(Vec::new(alloc)), performative);
     if let Some(len) = len {
@@ -87,9 +87,9 @@ fn write<T: Serialize>(
 }
 
 // Returns why a frame is not written.
-#[tactic(auto, using(crate::proofs::FrameLemmas::exceeds_limit))]
+#[tactic(auto, using(crate::proofs::FrameLemmas::frame_refused, crate::proofs::FrameLemmas::tree_refused, crate::proofs::FrameLemmas::memory_refused))]
 fn reason<T: Serialize>(performative: &T, payload: usize, limit: u32) -> FrameError
-    ensures { result ≡ TooLong → ExceedsFrame limit (T.tree performative.now) payload }
+    ensures { RefusesToWrite limit (T.tree performative.now) payload result }
 {
     match serialized_size(performative) {
         Ok(len) => match size_of_frame(len, payload, limit) {
