@@ -1,6 +1,7 @@
 //! Goes over an input and shows it.
 
 use crate::fault::{Fault, Found};
+use crate::foreign::foreign_fault;
 use crate::item::{Item, ItemKind};
 use crate::json::{Json, push_json_fault};
 use crate::level::{Level, LevelKind};
@@ -16,9 +17,6 @@ use crate::text::push_text;
 use crate::tree::{push_fault, push_line};
 use std::alloc::Global;
 use std::io::Write;
-
-// The bytes of text that are written at once, or a line more.
-const BUFFER: usize = 8192;
 
 /// What a run has found.
 #[derive(Drop)]
@@ -59,10 +57,12 @@ struct Dumper {
 /// [`Fault::OutOfMemory`] if an allocation fails. What was shown before is written first. A fault
 /// of the input is no error: it is shown, and counted in the report.
 ///
+/// The text of an item is written before the next item is read, so a writer should have a buffer.
+///
 /// # Memory
 ///
-/// One entry and one mask of the path for each open value, one item, and 8 KiB of text. A JSON
-/// object is kept until it is whole.
+/// One entry and one mask of the path for each open value, one item and its text. A JSON object is
+/// kept until it is whole.
 pub fn run<S: Taking, W: Write>(
     alloc: Global,
     source: &mut S,
@@ -112,17 +112,21 @@ impl Dumper {
             if !self.step(source, selector)? {
                 break;
             }
-            if self.line.text.len() >= BUFFER {
+            if !self.line.text.is_empty() {
                 self.write(writer)?;
             }
         }
         Ok(())
     }
 
-    // Writes the text.
+    // Writes the text, and has it flushed if the options say so and a value or a frame has ended.
     fn write<W: Write>(&mut self, writer: &mut W) -> Result<(), Fault> {
-        let result = writer.write_all(self.line.text.as_bytes());
+        let is_end = self.scanner.levels().is_empty() && !self.scanner.is_in_payload();
+        let mut result = writer.write_all(self.line.text.as_bytes());
         self.line.text.clear();
+        if self.options.unbuffered && is_end && result.is_ok() {
+            result = writer.flush();
+        }
         match result {
             Ok(()) => Ok(()),
             Err(_) => Err(Fault::Output),
@@ -232,6 +236,11 @@ impl Dumper {
         if fault.is_of_machine() {
             return Err(fault);
         }
+        let fault = if self.scanner.start == 0 {
+            named(source, fault)?
+        } else {
+            fault
+        };
         let at = self.scanner.fault_at(source, fault);
         let inside = at.saturating_sub(self.scanner.start) as usize;
         let byte = match source.item_bytes().get(inside).copied() {
@@ -279,6 +288,16 @@ impl Dumper {
         self.selected = None;
         self.scanner.recover() && !is_end
     }
+}
+
+// Returns a fault of the first item, or that of an input that is no AMQP.
+fn named<S: Taking>(source: &mut S, fault: Fault) -> Result<Fault, Fault> {
+    let next = source.peek()?.unwrap_or(0);
+    let found = match source.item_bytes() {
+        [first] => foreign_fault(&[*first, next]),
+        bytes => foreign_fault(bytes),
+    };
+    Ok(found.unwrap_or(fault))
 }
 
 // Whether a frame is open.

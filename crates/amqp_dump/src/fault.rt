@@ -35,6 +35,12 @@ pub enum Fault {
     FrameSize(u32),
     /// The data offset of a frame is less than 2 or past its size.
     DataOffset(u8),
+    /// The input is a packet capture.
+    Capture,
+    /// The input is TLS.
+    Tls,
+    /// The input is a message, and frames are expected.
+    Message,
 }
 
 impl Fault {
@@ -148,6 +154,10 @@ fn expected(alloc: Global, fault: Fault) -> Result<String, Fault> {
         Fault::Payload(ValueKind::Char) => "expected a Unicode scalar value",
         Fault::Payload(_) => "expected UTF-8",
         Fault::TooDeep => "expected at most 256 levels",
+        Fault::Capture =>
+            "expected AMQP, not a packet capture: take the bytes of a connection by tshark -q -z follow,tcp,raw,0 -r FILE",
+        Fault::Tls => "expected AMQP, not TLS: capture it before it is encrypted",
+        Fault::Message => "expected a frame, not a message: leave out --frames",
     };
     Ok(String::from_str(alloc, text)?)
 }

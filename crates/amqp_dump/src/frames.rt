@@ -3,6 +3,7 @@
 ghost use Rattle.amqp_dump.specs.Kept.{Stays};
 
 use crate::fault::Fault;
+use crate::foreign::no_frame;
 use crate::item::ItemKind;
 use crate::level::{Level, LevelKind};
 use crate::names;
@@ -28,6 +29,11 @@ impl Scanner {
         let [a, b, c, d, offset, kind, e, f] = header;
         if [a, b, c, d] == *b"AMQP" {
             return Ok(ItemKind::Protocol);
+        }
+        if self.start == 0 {
+            if let Some(fault) = no_frame(&header) {
+                return Err(fault);
+            }
         }
         let size = u32::from_be_bytes([a, b, c, d]);
         if size < 8 {

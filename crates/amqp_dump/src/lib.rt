@@ -9,6 +9,7 @@ mod describe;
 mod dumper;
 mod elements;
 mod fault;
+mod foreign;
 mod frames;
 mod hex_reader;
 mod item;

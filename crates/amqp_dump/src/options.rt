@@ -28,6 +28,8 @@ pub struct Options {
     pub column: usize,
     /// The most values, frames and protocol headers that are read.
     pub most_values: u64,
+    /// Whether the writer is flushed after each of them.
+    pub unbuffered: bool,
 }
 
 impl Options {
@@ -41,6 +43,7 @@ impl Options {
             most_bytes: 64,
             column: 12,
             most_values: u64::MAX,
+            unbuffered: false,
         }
     }
 }

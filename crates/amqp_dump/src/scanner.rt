@@ -286,7 +286,7 @@ impl Scanner {
         match fault {
             Fault::EndOfInput(_) => source.at(),
             Fault::Payload(_) => self.start.saturating_add(self.bad as u64),
-            Fault::FrameSize(_) => self.start,
+            Fault::FrameSize(_) | Fault::Capture | Fault::Tls | Fault::Message => self.start,
             Fault::DataOffset(_) => self.start.saturating_add(4),
             _ => last,
         }

@@ -2,13 +2,13 @@
 
 use amqp_dump::{Options, OutputFormat};
 use clap::{Arg, ArgAction, ArgMatches, Command, Error, value_parser};
-use std::alloc::Global;
+use std::alloc::{AllocError, Global};
 
 /// What the arguments ask for.
 #[derive(Drop)]
 pub struct Arguments<'a> {
-    /// The file that is read, or standard input.
-    pub file: Option<&'a str>,
+    /// The files that are read, `-` for standard input.
+    pub files: Vec<&'a str>,
     /// Whether the input is in hexadecimal.
     pub hex: bool,
     /// The path to the values that are shown.
@@ -27,12 +27,13 @@ pub fn command<'a>(alloc: Global) -> Result<Command<'a>, Error> {
         .arg(
             Arg::new(alloc, "file")
                 .value_name("FILE")
-                .help("A file, or else standard input"),
+                .action(ArgAction::Append)
+                .help("The files; none or - is standard input"),
         )?
         .arg(flag(
             alloc,
             "hex",
-            "The input is hexadecimal (white space and 0x are ignored)",
+            "The input is hexadecimal: digits, or as xxd or hexdump -C writes them",
         ))?
         .arg(flag(
             alloc,
@@ -101,23 +102,39 @@ fn with_limits<'a>(alloc: Global, command: Command<'a>) -> Result<Command<'a>, E
         .arg(with_value(alloc, "limit", "N", "Read at most N values or frames").value_parser(
             value_parser!(u64),
         ))?
+        .arg(flag(
+            alloc,
+            "unbuffered",
+            "Write each value or frame at once (else before a read that may wait)",
+        ))?
         .arg(
-            with_value(alloc, "color", "WHEN", "Write colors")
-                .value_parser(["auto", "always", "never"].as_slice())
-                .default_value("auto"),
+            with_value(
+                alloc,
+                "color",
+                "WHEN",
+                "Write colors; auto is without if NO_COLOR is set",
+            )
+            .value_parser(["auto", "always", "never"].as_slice())
+            .default_value("auto"),
         )?;
     Ok(command)
 }
 
-/// Returns what the arguments ask for.
-pub fn read_arguments<'a>(matches: &ArgMatches<'a>, is_terminal: bool) -> Arguments<'a> {
+/// Returns what the arguments ask for. `has_color` is the color of `auto` on a terminal.
+pub fn read_arguments<'a>(
+    alloc: Global,
+    matches: &ArgMatches<'a>,
+    is_terminal: bool,
+    has_color: bool,
+) -> Result<Arguments<'a>, AllocError> {
     let mut options = Options::tree();
     options.form = output_format_of(matches, is_terminal);
     options.frames = matches.get_flag("frames");
+    options.unbuffered = matches.get_flag("unbuffered");
     options.color = match matches.get_str("color") {
         Some("always") => true,
         Some("never") => false,
-        _ => is_terminal,
+        _ => is_terminal && has_color,
     };
     if let Some(depth) = matches.get_one::<u32>("max-depth") {
         options.most_levels = depth as usize;
@@ -129,13 +146,18 @@ pub fn read_arguments<'a>(matches: &ArgMatches<'a>, is_terminal: bool) -> Argume
     if let Some(limit) = matches.get_one::<u64>("limit") {
         options.most_values = limit;
     }
-    Arguments {
-        file: matches.get_str("file"),
+    let mut files = Vec::new(alloc);
+    match matches.get_strs("file") {
+        Some(given) => files.extend_from_slice(given)?,
+        None => files.push("-")?,
+    }
+    Ok(Arguments {
+        files,
         hex: matches.get_flag("hex"),
         path: matches.get_str("select"),
         summary: matches.get_flag("summary"),
         options,
-    }
+    })
 }
 
 fn output_format_of(matches: &ArgMatches<'_>, is_terminal: bool) -> OutputFormat {

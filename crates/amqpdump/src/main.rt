@@ -2,11 +2,13 @@
 #![tactic(auto)]
 
 mod arguments;
+mod output;
 mod progress;
 
 use amqp_dump::{Fault, HexReader, Report, Selector, Source, run};
 use amqp_frame::IoReader;
 use arguments::{Arguments, command, read_arguments};
+use output::{Output, OutputWriter};
 use progress::Progress;
 use std::alloc::Global;
 use std::env::Env;
@@ -47,12 +49,16 @@ fn start<R: Input + Print + Eprint + AllocGlobal + Files + Env + Clock>(
     let Ok(command) = command(alloc) else {
         return Ok(out_of_memory(rt));
     };
+    let has_color = !matches!(std::env::var(rt, "NO_COLOR"), Ok(value) if !value.is_empty());
     let arguments = match command.try_get_matches_from(words.as_slice()) {
-        Ok(matches) => read_arguments(&matches, terminals.output),
+        Ok(matches) => read_arguments(alloc, &matches, terminals.output, has_color),
         Err(error) => {
             error.print(rt)?;
             return Ok(if error.use_stderr() { 2 } else { 0 });
         }
+    };
+    let Ok(arguments) = arguments else {
+        return Ok(out_of_memory(rt));
     };
     let selector = match selector_of(alloc, &arguments) {
         Ok(selector) => selector,
@@ -62,19 +68,38 @@ fn start<R: Input + Print + Eprint + AllocGlobal + Files + Env + Clock>(
         let _ = eprintln!(rt; "amqpdump: the path is not one such as 0x73.message-id or /2/0");
         return Ok(2);
     }
+    let output = Output::new(alloc, rt);
     let is_told = terminals.error && !terminals.output;
-    let Some(file) = arguments.file else {
-        let input = Progress::new(rt, rt.reader(), is_told);
-        return Ok(over_reader(rt, &arguments, &selector, input));
-    };
+    let mut code = 0;
+    for file in arguments.files.iter() {
+        if !output.has_failed() {
+            code = code.max(over_file(rt, &arguments, &selector, &output, *file, is_told));
+        }
+    }
+    Ok(code)
+}
+
+// Shows what a file has, and returns the exit status.
+fn over_file<R: Input + Print + Eprint + AllocGlobal + Files + Clock>(
+    rt: &R,
+    arguments: &Arguments<'_>,
+    selector: &Option<Selector>,
+    output: &Output<'_, R>,
+    file: &str,
+    is_told: bool,
+) -> u8 {
+    if file == "-" {
+        let input = Progress::new(rt, output, rt.reader(), is_told);
+        return over_reader(rt, arguments, selector, output, input);
+    }
     match fs::open(rt, file) {
         Ok(input) => {
-            let input = Progress::new(rt, input, is_told);
-            Ok(over_reader(rt, &arguments, &selector, input))
+            let input = Progress::new(rt, output, input, is_told);
+            over_reader(rt, arguments, selector, output, input)
         }
         Err(error) => {
             let _ = eprintln!(rt; "amqpdump: {file}: {error}");
-            Ok(1)
+            1
         }
     }
 }
@@ -96,15 +121,16 @@ fn over_reader<R: Print + Eprint + AllocGlobal, I: io::Read + Drop>(
     rt: &R,
     arguments: &Arguments<'_>,
     selector: &Option<Selector>,
+    output: &Output<'_, R>,
     input: I,
 ) -> u8 {
     if !arguments.hex {
-        let result = over_bytes(rt, input, arguments, selector);
-        return status(rt, result);
+        let result = over_bytes(rt, output, input, arguments, selector);
+        return status(rt, output, result);
     }
     let mut input = HexReader::new(input);
-    let result = over_bytes(rt, &mut input, arguments, selector);
-    let code = status(rt, result);
+    let result = over_bytes(rt, output, &mut input, arguments, selector);
+    let code = status(rt, output, result);
     if let Some(at) = input.wrong_at() {
         let _ = eprintln!(rt; "amqpdump: character {at} of the input is not hexadecimal");
         return 1;
@@ -115,17 +141,18 @@ fn over_reader<R: Print + Eprint + AllocGlobal, I: io::Read + Drop>(
 // Shows the bytes of a reader on standard output.
 fn over_bytes<R: Print + AllocGlobal, I: io::Read + Drop>(
     rt: &R,
+    output: &Output<'_, R>,
     input: I,
     arguments: &Arguments<'_>,
     selector: &Option<Selector>,
 ) -> Result<Report, Fault> {
     let alloc = rt.alloc();
     let mut source = Source::new(alloc, IoReader::new(input));
-    let mut output = io::writer(rt);
+    let mut writer = OutputWriter(output);
     let report = run(
         alloc,
         &mut source,
-        &mut output,
+        &mut writer,
         &arguments.options,
         selector.as_ref(),
     )?;
@@ -138,9 +165,15 @@ fn over_bytes<R: Print + AllocGlobal, I: io::Read + Drop>(
     Ok(report)
 }
 
-// Returns the exit status, and tells what is wrong on standard error.
-fn status<R: Eprint + AllocGlobal>(rt: &R, ended: Result<Report, Fault>) -> u8 {
+// Returns the exit status, and tells what is wrong on standard error, but not that what reads the
+// output has closed it.
+fn status<R: Print + Eprint + AllocGlobal>(
+    rt: &R,
+    output: &Output<'_, R>,
+    ended: Result<Report, Fault>,
+) -> u8 {
     match ended {
+        _ if output.is_closed() => 0,
         Ok(report) => {
             let Report { first, .. } = report;
             let Some(first) = first else {
@@ -152,7 +185,7 @@ fn status<R: Eprint + AllocGlobal>(rt: &R, ended: Result<Report, Fault>) -> u8 {
             1
         }
         Err(Fault::OutOfMemory) => out_of_memory(rt),
-        Err(Fault::Output) => {
+        Err(_) if output.has_failed() => {
             let _ = eprintln!(rt; "amqpdump: output failed");
             1
         }

@@ -1,13 +1,16 @@
-//! How far a run has come, on standard error.
+//! The input, and how far a run has come.
 
+use crate::output::Output;
 use std::io;
 use std::time::{Clock, Duration, Instant};
 
-/// A reader that tells on standard error, once a second, how much was read.
+/// A reader that has standard output written before it reads, and tells on standard error, once a
+/// second, how much was read.
 #[derive(Drop)]
-pub struct Progress<'a, I, R> {
+pub struct Progress<'o, 'a, I, R> {
     inner: I,
     to: &'a R,
+    output: &'o Output<'a, R>,
     // When it was told last, or the reader was created; `None` if nothing is told.
     last: Option<Instant>,
     // The number of bytes that were read.
@@ -16,13 +19,19 @@ pub struct Progress<'a, I, R> {
     is_told: bool,
 }
 
-impl<'a, I: io::Read, R: Eprint + Clock> Progress<'a, I, R> {
+impl<'o, 'a, I: io::Read, R: Print + Eprint + Clock> Progress<'o, 'a, I, R> {
     /// Creates a reader over `inner`. It tells nothing unless `is_on`.
-    pub fn new(to: &'a R, inner: I, is_on: bool) -> Progress<'a, I, R> {
+    pub fn new(
+        to: &'a R,
+        output: &'o Output<'a, R>,
+        inner: I,
+        is_on: bool,
+    ) -> Progress<'o, 'a, I, R> {
         let last = if is_on { Instant::now(to).ok() } else { None };
         Progress {
             inner,
             to,
+            output,
             last,
             read: 0,
             is_told: false,
@@ -54,8 +63,9 @@ impl<'a, I: io::Read, R: Eprint + Clock> Progress<'a, I, R> {
     }
 }
 
-impl<I: io::Read, R: Eprint + Clock> io::Read for Progress<'_, I, R> {
+impl<I: io::Read, R: Print + Eprint + Clock> io::Read for Progress<'_, '_, I, R> {
     fn read(&mut self, buf: &mut [u8]) -> io::Result<usize> {
+        self.output.flush()?;
         let count = self.inner.read(buf)?;
         self.read = self.read.saturating_add(count as u64);
         if count == 0 {
