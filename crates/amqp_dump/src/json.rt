@@ -87,8 +87,7 @@ impl Json {
         self.text.push_str(before)?;
         self.comma = false;
         if let Some(field) = level.and_then(field_of) {
-            let name = field.name;
-            write!(self.text, "\"field\":\"{name}\",")?;
+            write!(self.text, "\"field\":\"{field}\",")?;
         }
         Ok(())
     }

@@ -1,7 +1,6 @@
 //! The names that the standard gives to descriptors and to the fields of their lists.
 
 use crate::types::TYPES;
-use amqp_value::ValueKind;
 
 /// A described type of the standard (AMQP 1.0 parts 2 to 5).
 #[derive(Clone, Copy, Debug, PartialEq, Eq)]
@@ -12,25 +11,8 @@ pub struct Type {
     pub name: &'static str,
     /// What is described: `list`, `map`, `binary` or `*`.
     pub form: &'static str,
-    /// Its fields, in order, if it is a list with fields.
-    pub fields: &'static [Field],
-}
-
-/// A field of a described type.
-#[derive(Clone, Copy, Debug, PartialEq, Eq)]
-pub struct Field {
-    /// The name of the field.
-    pub name: &'static str,
-    /// The kinds of its values, or none if it has values of all kinds.
-    pub kinds: &'static [ValueKind],
-    /// The words for its values, from 0 or false on, or its symbols, if it has no others.
-    pub words: &'static [&'static str],
-    /// What is meant if the field is absent: a number or a word, or nothing.
-    pub default: &'static str,
-    /// Whether it must be there.
-    pub is_mandatory: bool,
-    /// Whether it may be an array of such values.
-    pub is_multiple: bool,
+    /// The names of its fields, in order, if it is a list with fields.
+    pub fields: &'static [&'static str],
 }
 
 impl Type {

@@ -2,7 +2,7 @@
 
 use crate::fault::Fault;
 use crate::level::{Level, LevelKind};
-use crate::names::{self, Field};
+use crate::names;
 use amqp_value::ValueKind;
 use std::alloc::Global;
 
@@ -15,13 +15,13 @@ pub(crate) enum Step {
     Described(u64),
 }
 
-/// Returns the field at which the level is.
-pub(crate) fn field_of(level: &Level) -> Option<&'static Field> {
+/// Returns the name of the field at which the level is.
+pub(crate) fn field_of(level: &Level) -> Option<&'static str> {
     if level.kind != LevelKind::Compound(ValueKind::List) || level.index == 0 {
         return None;
     }
     let found = names::type_of(level.descriptor?)?;
-    found.fields.get(level.index as usize - 1)
+    found.fields.get(level.index as usize - 1).copied()
 }
 
 /// Returns the step into the level.
@@ -30,7 +30,7 @@ pub(crate) fn step_of(level: &Level) -> Option<Step> {
     match level.kind {
         LevelKind::Described => Some(Step::Described(level.descriptor?)),
         LevelKind::Constructor => None,
-        _ => Some(Step::Value(index?, field_of(level).map(|field| field.name))),
+        _ => Some(Step::Value(index?, field_of(level))),
     }
 }
 

@@ -116,10 +116,10 @@ fn push_label(line: &mut Line, outer: &[Level]) -> Result<(), Fault> {
     let Some(level) = outer.last() else {
         return Ok(());
     };
-    if let Some(field) = field_of(level) {
+    if let Some(name) = field_of(level) {
         line.paint(Part::Name)?;
         line.text.push_str(".")?;
-        line.text.push_str(field.name)?;
+        line.text.push_str(name)?;
         line.end()?;
         line.push(" ")?;
     }
