@@ -27,3 +27,4 @@ pub mod Ends
 pub mod Extends
 pub mod Meant
 pub mod Untyped
+pub mod Hints

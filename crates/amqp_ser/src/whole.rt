@@ -1,11 +1,12 @@
 //! Values that are measured and encoded without a serializer.
 
-ghost use Rattle.std.specs.Prelude.{◌≡◌, ◌++◌, ◌≤◌, true, length, IfSome};
+ghost use Rattle.std.specs.Prelude.{◌≡◌, ◌++◌, ◌+◌, ◌≤◌, true, length, IfSome};
 ghost use Rattle.std.specs.Vec.{vec_capacity};
 ghost use Rattle.amqp_ser.specs.Tree.{Tree};
 ghost use Rattle.amqp_ser.specs.Encoding.{encoding};
 ghost use Rattle.amqp_ser.specs.Writable.{within_limits, uniform_arrays, inside, writable};
 ghost use Rattle.amqp_ser.specs.Extends.{Extends};
+ghost use Rattle.amqp_ser.specs.Hints.{hints_of};
 ghost use Rattle.amqp_ser.specs.Ranged.{IsRanged};
 
 use crate::hint::Hint;
@@ -46,12 +47,15 @@ pub trait Whole {
             × (bytes.items ≡ encoding (whole_tree self.now))) };
 
     /// Like `whole_len`, and appends a hint for each compound, in the order in which they are
-    /// opened. No clause says that the hints are right.
+    /// opened.
     ///
     /// # Example
     /// The list of the strings `a` and `bc` has the length 10, and one hint, of a body of 7 bytes
     /// and 2 parts.
     fn whole_hints(&self, hints: &mut Vec<Hint>) -> Option<usize>
+        ensures kept { Extends hints.old.items hints.new.items }
+        ensures noted { IfSome result (λ _. hints.new.items
+            ≡ hints.old.items ++ hints_of (whole_tree self.now)) }
         ensures measured { IfSome result (λ n. (within_limits (whole_tree self.now) ≡ true)
             × ((uniform_arrays (whole_tree self.now) ≡ true)
             × ((inside (whole_tree self.now) ≡ true)
@@ -65,6 +69,8 @@ pub trait Whole {
     /// With the hints that `whole_hints` appends, the list of the strings `a` and `bc` is
     /// `c00802a10161a1026263`.
     fn whole_write(&self, hints: &[Hint], taken: &mut usize, out: &mut Vec<u8>) -> bool
+        ensures taken { result ≡ true →
+            taken.new ≡ taken.old + length (hints_of (whole_tree self.now)) }
         ensures capacity { vec_capacity out.old ≤ vec_capacity out.new }
         ensures extends { Extends out.old.items out.new.items }
         ensures written { result ≡ true → (within_limits (whole_tree self.now) ≡ true)

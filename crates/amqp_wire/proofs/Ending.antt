@@ -30,7 +30,7 @@ use Rattle.amqp_wire.specs.declared.sink.HeaderKind.{HeaderKind}
 use Rattle.amqp_wire.specs.declared.sink.HeaderKind.TheVariants as headers
 use Rattle.amqp_wire.specs.declared.sink.Opened.{Opened}
 use Rattle.amqp_wire.proofs.Given.{gave_at, when1}
-use Rattle.amqp_wire.proofs.SinkLaws.{Laws, has_extends}
+use Rattle.amqp_wire.proofs.SinkLaws.{Laws, has_extends, led_extends}
 
 admits_element : (p q : Position) (c : ℕ) → Admits p c q → is_element q ≡ is_element p
 admits_element positions.Root q c h = ap is_element h
@@ -60,22 +60,22 @@ put_shape : {K : Type 0} (adds : Adding K) (reads : Promises K) (a : K) (p : Pos
 put_shape {K} adds reads a p o t b q e g = subst (λ w. puts adds reads a p w b q) (sym e) g
 
 list_gave : {K : Type 0} (adds : Adding K) (reads : Promises K) (within : Opening K) (extends : Extending K) (marks : Marking K) → Laws adds reads within extends → (start : Pass K) (now after : K) (c : Kept) (kind : CompoundKind) (ps : List (Option Tree)) → Holds adds reads within extends marks resolved.List kind start now c ps →
-    ((a : K) (body : List ℕ) → within a (is_element start.position) headers.List c.opened now body → (reads.sound after → (fits (length body) ≡ true) × (is_count c.count ≡ true)) × adds a (form (is_element start.position) headers.List c.count body) after) → extends now after → puts adds reads start.sink start.position (marked start.marker (tree_of_parts kind ps)) after c.after
+    ((a : K) (body : List ℕ) → within a (is_element start.position) headers.List c.opened now body → (reads.sound after → (fits (length body) ≡ true) × (is_count c.count ≡ true)) × adds a (form (is_element start.position) headers.List c.count body) after) → (reads.sound after → reads.sound now) → puts adds reads start.sink start.position (marked start.marker (tree_of_parts kind ps)) after c.after
 list_gave {K} adds reads within extends marks L start now after c kind ps h f x =
     let g = h.gathered in
     let z = f g.first (encoding_each g.ts) g.out in
-    let back : reads.sound after → within_limits_each g.ts ≡ true = λ v. g.within_limits_parts (L.keeps now after x v) in
+    let back : reads.sound after → within_limits_each g.ts ≡ true = λ v. g.within_limits_parts (x v) in
     put_shape adds reads start.sink start.position (marked start.marker (tree_of_parts kind ps)) (list g.ts) after c.after (shape start.marker marker.Other kind kinds.List ps g.ts (Some (list g.ts)) g.marker_is h.kind_is g.trees refl)
     (closed_gave adds reads within extends L headers.List start g.first after c.after (list g.ts) 0xd0 (count g.ts) (encoding_each g.ts) refl g.stands g.led refl refl (subst (λ n. adds g.first (form (is_element start.position) headers.List n (encoding_each g.ts)) after) g.counted z.1)
     (λ v. both (fits (length (encoding_each g.ts))) (within_limits_each g.ts) (z.0 v).0 (back v)) g.uniform_arrays_parts g.parts_fit g.ranged_parts)
 
 array_gave : {K : Type 0} (adds : Adding K) (reads : Promises K) (within : Opening K) (extends : Extending K) (marks : Marking K) → Laws adds reads within extends → (start : Pass K) (now after : K) (c : Kept) (kind : CompoundKind) (ps : List (Option Tree)) → Holds adds reads within extends marks resolved.Array kind start now c ps →
-    ((a : K) (body : List ℕ) → within a (is_element start.position) headers.Array c.opened now body → (reads.sound after → (fits (length body) ≡ true) × (is_count c.count ≡ true)) × adds a (form (is_element start.position) headers.Array c.count body) after) → extends now after → puts adds reads start.sink start.position (marked start.marker (tree_of_parts kind ps)) after c.after
+    ((a : K) (body : List ℕ) → within a (is_element start.position) headers.Array c.opened now body → (reads.sound after → (fits (length body) ≡ true) × (is_count c.count ≡ true)) × adds a (form (is_element start.position) headers.Array c.count body) after) → (reads.sound after → reads.sound now) → puts adds reads start.sink start.position (marked start.marker (tree_of_parts kind ps)) after c.after
 array_gave {K} adds reads within extends marks L start now after c kind ps h f x =
     let g = h.gathered in
     let content = array_constructor g.ts ++ payload_each g.ts in
     let z = f g.first content g.out in
-    let back : reads.sound after → within_limits_each g.ts ≡ true = λ v. g.within_limits_parts (L.keeps now after x v) in
+    let back : reads.sound after → within_limits_each g.ts ≡ true = λ v. g.within_limits_parts (x v) in
     put_shape adds reads start.sink start.position (marked start.marker (tree_of_parts kind ps)) (array g.ts) after c.after (shape start.marker marker.Array kind kinds.List ps g.ts (Some (array g.ts)) g.marker_is h.kind_is g.trees refl)
     (closed_gave adds reads within extends L headers.Array start g.first after c.after (array g.ts) 0xf0 (count g.ts) content refl g.stands g.led refl refl (subst (λ n. adds g.first (form (is_element start.position) headers.Array n content) after) g.counted z.1)
     (λ v. both (fits (length content)) (is_count (count g.ts) && within_limits_each g.ts) (z.0 v).0 (both (is_count (count g.ts)) (within_limits_each g.ts) (subst (λ n. is_count n ≡ true) g.counted (z.0 v).1) (back v)))
@@ -91,11 +91,11 @@ pairs_count (more k no_trees) ps h = cc
 pairs_count (more k (more v ts)) ps h = pairs_more k v ts ps (in_pairs ts) (λ qs e. pairs_count ts qs e) h
 
 map_gave : {K : Type 0} (adds : Adding K) (reads : Promises K) (within : Opening K) (extends : Extending K) (marks : Marking K) → Laws adds reads within extends → (start : Pass K) (now after : K) (c : Kept) (kind : CompoundKind) (ps : List (Option Tree)) → Holds adds reads within extends marks resolved.Map kind start now c ps → complete kind ps ≡ true →
-    ((a : K) (body : List ℕ) → within a (is_element start.position) headers.Map c.opened now body → (reads.sound after → (fits (length body) ≡ true) × (is_count c.count ≡ true)) × adds a (form (is_element start.position) headers.Map c.count body) after) → extends now after → puts adds reads start.sink start.position (marked start.marker (tree_of_parts kind ps)) after c.after
+    ((a : K) (body : List ℕ) → within a (is_element start.position) headers.Map c.opened now body → (reads.sound after → (fits (length body) ≡ true) × (is_count c.count ≡ true)) × adds a (form (is_element start.position) headers.Map c.count body) after) → (reads.sound after → reads.sound now) → puts adds reads start.sink start.position (marked start.marker (tree_of_parts kind ps)) after c.after
 map_gave {K} adds reads within extends marks L start now after c kind ps h d f x =
     let g = h.gathered in
     let z = f g.first (encoding_each g.ts) g.out in
-    let back : reads.sound after → within_limits_each g.ts ≡ true = λ v. g.within_limits_parts (L.keeps now after x v) in
+    let back : reads.sound after → within_limits_each g.ts ≡ true = λ v. g.within_limits_parts (x v) in
     let even_parts : paired ps ≡ true = subst (λ w. complete w ps ≡ true) h.kind_is d in
     let q = pairing g.ts (sym (paired-even ps g.ts g.trees) ∙ even_parts) in
     let n : pair_count q.pairs * 2 ≡ count g.ts = pairs_count g.ts q.pairs q.are in
@@ -106,11 +106,11 @@ map_gave {K} adds reads within extends marks L start now after c kind ps h d f x
 
 variant_gave : {K : Type 0} (adds : Adding K) (reads : Promises K) (within : Opening K) (extends : Extending K) (marks : Marking K) → Laws adds reads within extends → (i : ℕ) (start : Pass K) (now after : K) (c : Kept) (kind : CompoundKind) (ps : List (Option Tree)) → Holds adds reads within extends marks (resolved.Variant i) kind start now c ps →
     ((a mid : K) (index body : List ℕ) → within a (is_element start.position) headers.Map c.outer mid index → within mid false headers.List c.opened now body →
-    (reads.sound after → (fits (length body) ≡ true) × (fits (length (index ++ form false headers.List c.count body)) ≡ true)) × adds a (form (is_element start.position) headers.Map 2 (index ++ form false headers.List c.count body)) after) → extends now after → puts adds reads start.sink start.position (marked start.marker (tree_of_parts kind ps)) after c.after
+    (reads.sound after → (fits (length body) ≡ true) × (fits (length (index ++ form false headers.List c.count body)) ≡ true)) × adds a (form (is_element start.position) headers.Map 2 (index ++ form false headers.List c.count body)) after) → (reads.sound after → reads.sound now) → puts adds reads start.sink start.position (marked start.marker (tree_of_parts kind ps)) after c.after
 variant_gave {K} adds reads within extends marks L i start now after c kind ps h f x =
     let g = h.gathered in
     let z = f g.first g.out.mid (scalar_form (uint i)) (encoding_each g.ts) g.out.index g.out.fields in
-    let back : reads.sound after → within_limits_each g.ts ≡ true = λ v. g.within_limits_parts (L.keeps now after x v) in
+    let back : reads.sound after → within_limits_each g.ts ≡ true = λ v. g.within_limits_parts (x v) in
     let t = variant i (list g.ts) in
     let inner = scalar_form (uint i) ++ encoding (list g.ts) in
     put_shape adds reads start.sink start.position (marked start.marker (tree_of_parts kind ps)) t after c.after (shape start.marker marker.Other kind (kinds.Variant i) ps g.ts (Some t) g.marker_is h.kind_is g.trees refl)
@@ -125,14 +125,14 @@ only_part i (Some v ∷ []) ts e d = (v, cc)
 only_part i (p ∷ (q ∷ ps)) ts e d = cc
 
 newtype_variant_gave : {K : Type 0} (adds : Adding K) (reads : Promises K) (within : Opening K) (extends : Extending K) (marks : Marking K) → Laws adds reads within extends → (i : ℕ) (start : Pass K) (now after : K) (c : Kept) (kind : CompoundKind) (ps : List (Option Tree)) → Holds adds reads within extends marks (resolved.NewtypeVariant i) kind start now c ps → complete kind ps ≡ true →
-    ((a : K) (body : List ℕ) → within a (is_element start.position) headers.Map c.outer now body → (reads.sound after → (fits (length body) ≡ true) × (is_count 2 ≡ true)) × adds a (form (is_element start.position) headers.Map 2 body) after) → extends now after → puts adds reads start.sink start.position (marked start.marker (tree_of_parts kind ps)) after c.after
+    ((a : K) (body : List ℕ) → within a (is_element start.position) headers.Map c.outer now body → (reads.sound after → (fits (length body) ≡ true) × (is_count 2 ≡ true)) × adds a (form (is_element start.position) headers.Map 2 body) after) → (reads.sound after → reads.sound now) → puts adds reads start.sink start.position (marked start.marker (tree_of_parts kind ps)) after c.after
 newtype_variant_gave {K} adds reads within extends marks L i start now after c kind ps h d f x =
     let g = h.gathered in
     let one = only_part i ps g.ts g.trees (subst (λ w. complete w ps ≡ true) h.kind_is d) in
     let v = one.0 in
     let t = variant i v in
     let z = f g.first (scalar_form (uint i) ++ encoding_each g.ts) g.out in
-    let back : reads.sound after → within_limits_each g.ts ≡ true = λ v. g.within_limits_parts (L.keeps now after x v) in
+    let back : reads.sound after → within_limits_each g.ts ≡ true = λ v. g.within_limits_parts (x v) in
     let bytes : encoding_each g.ts ≡ encoding v = ap encoding_each one.1 ∙ append-nil (encoding v) in
     let inner = scalar_form (uint i) ++ encoding v in
     let same : scalar_form (uint i) ++ encoding_each g.ts ≡ inner = ap (λ bs. scalar_form (uint i) ++ bs) bytes in
@@ -170,10 +170,13 @@ alone_gave {K} adds reads start now c (p ∷ []) d h = subst (λ w. puts adds re
 alone_gave {K} adds reads start now c (p ∷ (q ∷ ps)) d h = cc
 
 -- The answer at the end of a compound.
-ended : {K : Type 0} (adds : Adding K) (reads : Promises K) (within : Opening K) (extends : Extending K) (marks : Marking K) → Laws adds reads within extends → (k : ResolvedKind) (start now after : Pass K) (c : PassCompound) (kind : CompoundKind) (ps : List (Option Tree)) (put : Bool) (res : Result (Unit {0}) GaveUp) → c.kind ≡ k → after.position ≡ c.after → Has adds reads within extends marks start kind now c ps → extends now.sink after.sink →
-    (HasIn adds reads within extends marks k start kind now.sink (kept c) ps → put ≡ true → puts adds reads start.sink start.position (marked start.marker (tree_of_parts kind ps)) after.sink c.after) → MatchResult res (λ _. put ≡ true) (λ _. Unit {0}) → Gives adds reads extends start (tree_of_parts kind ps) res after
-ended {K} adds reads within extends marks L k start now after c kind ps put (Err e) i a h g f m = L.on start.sink now.sink after.sink (has_extends adds reads within extends marks L (class_of c.kind) c.kind start kind now.sink (kept c) ps h) g
+ended : {K : Type 0} (adds : Adding K) (reads : Promises K) (within : Opening K) (extends : Extending K) (marks : Marking K) → Laws adds reads within extends → (k : ResolvedKind) (start now after : Pass K) (c : PassCompound) (kind : CompoundKind) (ps : List (Option Tree)) (put : Bool) (res : Result (Unit {0}) GaveUp) → c.kind ≡ k → after.position ≡ c.after → Has adds reads within extends marks start kind now c ps → (put ≡ false → extends start.sink after.sink) →
+    (HasIn adds reads within extends marks k start kind now.sink (kept c) ps → put ≡ true → puts adds reads start.sink start.position (marked start.marker (tree_of_parts kind ps)) after.sink c.after) → MatchResult res (λ _. put ≡ true) (λ _. put ≡ false) → Gives adds reads extends start (tree_of_parts kind ps) res after
+ended {K} adds reads within extends marks L k start now after c kind ps put (Err e) i a h g f m = g m
 ended {K} adds reads within extends marks L k start now after c kind ps put (Ok u) i a h g f m = subst (λ q. puts adds reads start.sink start.position (marked start.marker (tree_of_parts kind ps)) after.sink q) (sym a) (f (subst (λ w. HasIn adds reads within extends marks w start kind now.sink (kept c) ps) i h) m)
+
+still : {K : Type 0} (adds : Adding K) (reads : Promises K) (within : Opening K) (extends : Extending K) (marks : Marking K) → Laws adds reads within extends → (start now : Pass K) (after : K) (c : PassCompound) (kind : CompoundKind) (ps : List (Option Tree)) (put : Bool) → Has adds reads within extends marks start kind now c ps → (put ≡ false → extends now.sink after) → put ≡ false → extends start.sink after
+still {K} adds reads within extends marks L start now after c kind ps put h g z = L.on start.sink now.sink after (has_extends adds reads within extends marks L (class_of c.kind) c.kind start kind now.sink (kept c) ps h) (g z)
 
 -- What a sink promises when a header is closed.
 abbrev pub Closes : {K : Type 0} → Adding K → Promises K → Opening K → HeaderKind → Bool → Opened → ℕ → K → K → Bool → Type 0
@@ -182,42 +185,45 @@ Closes {K} adds reads within k e o n now after put = (a : K) (body : List ℕ) �
 closes_at : {K : Type 0} (adds : Adding K) (reads : Promises K) (within : Opening K) (k : HeaderKind) (e d : Bool) (o : Opened) (n : ℕ) (now after : K) (put : Bool) → e ≡ d → put ≡ true → Closes adds reads within k e o n now after put → (a : K) (body : List ℕ) → within a d k o now body → (reads.sound after → (fits (length body) ≡ true) × (is_count n ≡ true)) × adds a (form d k n body) after
 closes_at adds reads within k e d o n now after put i m f a body w = subst (λ x. (reads.sound after → (fits (length body) ≡ true) × (is_count n ≡ true)) × adds a (form x k n body) after) i (f a body (subst (λ x. within a x k o now body) (sym i) w) m)
 
-pub list_ended : {K : Type 0} (adds : Adding K) (reads : Promises K) (within : Opening K) (extends : Extending K) (marks : Marking K) → Laws adds reads within extends → (start now after : Pass K) (c : PassCompound) (kind : CompoundKind) (ps : List (Option Tree)) (e put : Bool) (res : Result (Unit {0}) GaveUp) → c.kind ≡ resolved.List → e ≡ is_element c.after → after.position ≡ c.after → Has adds reads within extends marks start kind now c ps → extends now.sink after.sink →
-    Closes adds reads within headers.List e c.opened c.count now.sink after.sink put → MatchResult res (λ _. put ≡ true) (λ _. Unit {0}) → Gives adds reads extends start (tree_of_parts kind ps) res after
-list_ended {K} adds reads within extends marks L start now after c kind ps e put res i d a h g f m = ended adds reads within extends marks L resolved.List start now after c kind ps put res i a h g
-    (λ o p. list_gave adds reads within extends marks L start now.sink after.sink (kept c) kind ps o (closes_at adds reads within headers.List e (is_element start.position) c.opened c.count now.sink after.sink put (d ∙ admits_element start.position c.after 0xd0 o.gathered.stands) p f) g) m
+pub list_ended : {K : Type 0} (adds : Adding K) (reads : Promises K) (within : Opening K) (extends : Extending K) (marks : Marking K) → Laws adds reads within extends → (start now after : Pass K) (c : PassCompound) (kind : CompoundKind) (ps : List (Option Tree)) (e put : Bool) (res : Result (Unit {0}) GaveUp) → c.kind ≡ resolved.List → e ≡ is_element c.after → after.position ≡ c.after → Has adds reads within extends marks start kind now c ps → (put ≡ false → extends now.sink after.sink) → (reads.sound after.sink → reads.sound now.sink) →
+    Closes adds reads within headers.List e c.opened c.count now.sink after.sink put → MatchResult res (λ _. put ≡ true) (λ _. put ≡ false) → Gives adds reads extends start (tree_of_parts kind ps) res after
+list_ended {K} adds reads within extends marks L start now after c kind ps e put res i d a h g s f m = ended adds reads within extends marks L resolved.List start now after c kind ps put res i a h (still adds reads within extends marks L start now after.sink c kind ps put h g)
+    (λ o p. list_gave adds reads within extends marks L start now.sink after.sink (kept c) kind ps o (closes_at adds reads within headers.List e (is_element start.position) c.opened c.count now.sink after.sink put (d ∙ admits_element start.position c.after 0xd0 o.gathered.stands) p f) s) m
 
-pub array_ended : {K : Type 0} (adds : Adding K) (reads : Promises K) (within : Opening K) (extends : Extending K) (marks : Marking K) → Laws adds reads within extends → (start now after : Pass K) (c : PassCompound) (kind : CompoundKind) (ps : List (Option Tree)) (e put : Bool) (res : Result (Unit {0}) GaveUp) → c.kind ≡ resolved.Array → e ≡ is_element c.after → after.position ≡ c.after → Has adds reads within extends marks start kind now c ps → extends now.sink after.sink →
-    Closes adds reads within headers.Array e c.opened c.count now.sink after.sink put → MatchResult res (λ _. put ≡ true) (λ _. Unit {0}) → Gives adds reads extends start (tree_of_parts kind ps) res after
-array_ended {K} adds reads within extends marks L start now after c kind ps e put res i d a h g f m = ended adds reads within extends marks L resolved.Array start now after c kind ps put res i a h g
-    (λ o p. array_gave adds reads within extends marks L start now.sink after.sink (kept c) kind ps o (closes_at adds reads within headers.Array e (is_element start.position) c.opened c.count now.sink after.sink put (d ∙ admits_element start.position c.after 0xf0 o.gathered.stands) p f) g) m
+pub array_ended : {K : Type 0} (adds : Adding K) (reads : Promises K) (within : Opening K) (extends : Extending K) (marks : Marking K) → Laws adds reads within extends → (start now after : Pass K) (c : PassCompound) (kind : CompoundKind) (ps : List (Option Tree)) (e put : Bool) (res : Result (Unit {0}) GaveUp) → c.kind ≡ resolved.Array → e ≡ is_element c.after → after.position ≡ c.after → Has adds reads within extends marks start kind now c ps → (put ≡ false → extends now.sink after.sink) → (reads.sound after.sink → reads.sound now.sink) →
+    Closes adds reads within headers.Array e c.opened c.count now.sink after.sink put → MatchResult res (λ _. put ≡ true) (λ _. put ≡ false) → Gives adds reads extends start (tree_of_parts kind ps) res after
+array_ended {K} adds reads within extends marks L start now after c kind ps e put res i d a h g s f m = ended adds reads within extends marks L resolved.Array start now after c kind ps put res i a h (still adds reads within extends marks L start now after.sink c kind ps put h g)
+    (λ o p. array_gave adds reads within extends marks L start now.sink after.sink (kept c) kind ps o (closes_at adds reads within headers.Array e (is_element start.position) c.opened c.count now.sink after.sink put (d ∙ admits_element start.position c.after 0xf0 o.gathered.stands) p f) s) m
 
-pub map_ended : {K : Type 0} (adds : Adding K) (reads : Promises K) (within : Opening K) (extends : Extending K) (marks : Marking K) → Laws adds reads within extends → (start now after : Pass K) (c : PassCompound) (kind : CompoundKind) (ps : List (Option Tree)) (e put : Bool) (res : Result (Unit {0}) GaveUp) → c.kind ≡ resolved.Map → e ≡ is_element c.after → after.position ≡ c.after → Has adds reads within extends marks start kind now c ps → extends now.sink after.sink → complete kind ps ≡ true →
-    Closes adds reads within headers.Map e c.opened c.count now.sink after.sink put → MatchResult res (λ _. put ≡ true) (λ _. Unit {0}) → Gives adds reads extends start (tree_of_parts kind ps) res after
-map_ended {K} adds reads within extends marks L start now after c kind ps e put res i d a h g w f m = ended adds reads within extends marks L resolved.Map start now after c kind ps put res i a h g
-    (λ o p. map_gave adds reads within extends marks L start now.sink after.sink (kept c) kind ps o w (closes_at adds reads within headers.Map e (is_element start.position) c.opened c.count now.sink after.sink put (d ∙ admits_element start.position c.after 0xd1 o.gathered.stands) p f) g) m
+pub map_ended : {K : Type 0} (adds : Adding K) (reads : Promises K) (within : Opening K) (extends : Extending K) (marks : Marking K) → Laws adds reads within extends → (start now after : Pass K) (c : PassCompound) (kind : CompoundKind) (ps : List (Option Tree)) (e put : Bool) (res : Result (Unit {0}) GaveUp) → c.kind ≡ resolved.Map → e ≡ is_element c.after → after.position ≡ c.after → Has adds reads within extends marks start kind now c ps → (put ≡ false → extends now.sink after.sink) → (reads.sound after.sink → reads.sound now.sink) → complete kind ps ≡ true →
+    Closes adds reads within headers.Map e c.opened c.count now.sink after.sink put → MatchResult res (λ _. put ≡ true) (λ _. put ≡ false) → Gives adds reads extends start (tree_of_parts kind ps) res after
+map_ended {K} adds reads within extends marks L start now after c kind ps e put res i d a h g s w f m = ended adds reads within extends marks L resolved.Map start now after c kind ps put res i a h (still adds reads within extends marks L start now after.sink c kind ps put h g)
+    (λ o p. map_gave adds reads within extends marks L start now.sink after.sink (kept c) kind ps o w (closes_at adds reads within headers.Map e (is_element start.position) c.opened c.count now.sink after.sink put (d ∙ admits_element start.position c.after 0xd1 o.gathered.stands) p f) s) m
 
-pub headed_ended : {K : Type 0} (adds : Adding K) (reads : Promises K) (within : Opening K) (extends : Extending K) (marks : Marking K) → Laws adds reads within extends → (k : ResolvedKind) (start now after : Pass K) (c : PassCompound) (kind : CompoundKind) (ps : List (Option Tree)) (e put : Bool) (res : Result (Unit {0}) GaveUp) → HasHeader k → c.kind ≡ k → e ≡ is_element c.after → after.position ≡ c.after → Has adds reads within extends marks start kind now c ps → extends now.sink after.sink → complete kind ps ≡ true →
-    Closes adds reads within (header_of k) e c.opened c.count now.sink after.sink put → MatchResult res (λ _. put ≡ true) (λ _. Unit {0}) → Gives adds reads extends start (tree_of_parts kind ps) res after
-headed_ended adds reads within extends marks L resolved.List start now after c kind ps e put res t i d a h g w f m = list_ended adds reads within extends marks L start now after c kind ps e put res i d a h g f m
-headed_ended adds reads within extends marks L resolved.Map start now after c kind ps e put res t i d a h g w f m = map_ended adds reads within extends marks L start now after c kind ps e put res i d a h g w f m
-headed_ended adds reads within extends marks L resolved.Array start now after c kind ps e put res t i d a h g w f m = array_ended adds reads within extends marks L start now after c kind ps e put res i d a h g f m
-headed_ended adds reads within extends marks L (resolved.Variant j) start now after c kind ps e put res t i d a h g w f m = absurd t
-headed_ended adds reads within extends marks L (resolved.NewtypeVariant j) start now after c kind ps e put res t i d a h g w f m = absurd t
-headed_ended adds reads within extends marks L resolved.Transparent start now after c kind ps e put res t i d a h g w f m = absurd t
-headed_ended adds reads within extends marks L resolved.Single start now after c kind ps e put res t i d a h g w f m = absurd t
-headed_ended adds reads within extends marks L resolved.Refused start now after c kind ps e put res t i d a h g w f m = absurd t
+pub headed_ended : {K : Type 0} (adds : Adding K) (reads : Promises K) (within : Opening K) (extends : Extending K) (marks : Marking K) → Laws adds reads within extends → (k : ResolvedKind) (start now after : Pass K) (c : PassCompound) (kind : CompoundKind) (ps : List (Option Tree)) (e put : Bool) (res : Result (Unit {0}) GaveUp) → HasHeader k → c.kind ≡ k → e ≡ is_element c.after → after.position ≡ c.after → Has adds reads within extends marks start kind now c ps → (put ≡ false → extends now.sink after.sink) → (reads.sound after.sink → reads.sound now.sink) → complete kind ps ≡ true →
+    Closes adds reads within (header_of k) e c.opened c.count now.sink after.sink put → MatchResult res (λ _. put ≡ true) (λ _. put ≡ false) → Gives adds reads extends start (tree_of_parts kind ps) res after
+headed_ended adds reads within extends marks L resolved.List start now after c kind ps e put res t i d a h g s w f m = list_ended adds reads within extends marks L start now after c kind ps e put res i d a h g s f m
+headed_ended adds reads within extends marks L resolved.Map start now after c kind ps e put res t i d a h g s w f m = map_ended adds reads within extends marks L start now after c kind ps e put res i d a h g s w f m
+headed_ended adds reads within extends marks L resolved.Array start now after c kind ps e put res t i d a h g s w f m = array_ended adds reads within extends marks L start now after c kind ps e put res i d a h g s f m
+headed_ended adds reads within extends marks L (resolved.Variant j) start now after c kind ps e put res t i d a h g s w f m = absurd t
+headed_ended adds reads within extends marks L (resolved.NewtypeVariant j) start now after c kind ps e put res t i d a h g s w f m = absurd t
+headed_ended adds reads within extends marks L resolved.Transparent start now after c kind ps e put res t i d a h g s w f m = absurd t
+headed_ended adds reads within extends marks L resolved.Single start now after c kind ps e put res t i d a h g s w f m = absurd t
+headed_ended adds reads within extends marks L resolved.Refused start now after c kind ps e put res t i d a h g s w f m = absurd t
 
-pub newtype_variant_ended : {K : Type 0} (adds : Adding K) (reads : Promises K) (within : Opening K) (extends : Extending K) (marks : Marking K) → Laws adds reads within extends → (i : ℕ) (start now after : Pass K) (c : PassCompound) (kind : CompoundKind) (ps : List (Option Tree)) (e put : Bool) (res : Result (Unit {0}) GaveUp) → c.kind ≡ resolved.NewtypeVariant i → e ≡ is_element c.after → after.position ≡ c.after → Has adds reads within extends marks start kind now c ps → extends now.sink after.sink → complete kind ps ≡ true →
-    Closes adds reads within headers.Map e c.outer 2 now.sink after.sink put → MatchResult res (λ _. put ≡ true) (λ _. Unit {0}) → Gives adds reads extends start (tree_of_parts kind ps) res after
-newtype_variant_ended {K} adds reads within extends marks L i start now after c kind ps e put res k d a h g w f m = ended adds reads within extends marks L (resolved.NewtypeVariant i) start now after c kind ps put res k a h g
-    (λ o p. newtype_variant_gave adds reads within extends marks L i start now.sink after.sink (kept c) kind ps o w (closes_at adds reads within headers.Map e (is_element start.position) c.outer 2 now.sink after.sink put (d ∙ admits_element start.position c.after 0xd1 o.gathered.stands) p f) g) m
+pub newtype_variant_ended : {K : Type 0} (adds : Adding K) (reads : Promises K) (within : Opening K) (extends : Extending K) (marks : Marking K) → Laws adds reads within extends → (i : ℕ) (start now after : Pass K) (c : PassCompound) (kind : CompoundKind) (ps : List (Option Tree)) (e put : Bool) (res : Result (Unit {0}) GaveUp) → c.kind ≡ resolved.NewtypeVariant i → e ≡ is_element c.after → after.position ≡ c.after → Has adds reads within extends marks start kind now c ps → (put ≡ false → extends now.sink after.sink) → (reads.sound after.sink → reads.sound now.sink) → complete kind ps ≡ true →
+    Closes adds reads within headers.Map e c.outer 2 now.sink after.sink put → MatchResult res (λ _. put ≡ true) (λ _. put ≡ false) → Gives adds reads extends start (tree_of_parts kind ps) res after
+newtype_variant_ended {K} adds reads within extends marks L i start now after c kind ps e put res k d a h g s w f m = ended adds reads within extends marks L (resolved.NewtypeVariant i) start now after c kind ps put res k a h (still adds reads within extends marks L start now after.sink c kind ps put h g)
+    (λ o p. newtype_variant_gave adds reads within extends marks L i start now.sink after.sink (kept c) kind ps o w (closes_at adds reads within headers.Map e (is_element start.position) c.outer 2 now.sink after.sink put (d ∙ admits_element start.position c.after 0xd1 o.gathered.stands) p f) s) m
 
-pub variant_ended : {K : Type 0} (adds : Adding K) (reads : Promises K) (within : Opening K) (extends : Extending K) (marks : Marking K) → Laws adds reads within extends → (i : ℕ) (start now after : Pass K) (c : PassCompound) (kind : CompoundKind) (ps : List (Option Tree)) (put : Bool) (res : Result (Unit {0}) GaveUp) → c.kind ≡ resolved.Variant i → after.position ≡ c.after → Has adds reads within extends marks start kind now c ps → extends now.sink after.sink →
+pub variant_ended : {K : Type 0} (adds : Adding K) (reads : Promises K) (within : Opening K) (extends : Extending K) (marks : Marking K) → Laws adds reads within extends → (i : ℕ) (start now after : Pass K) (c : PassCompound) (kind : CompoundKind) (ps : List (Option Tree)) (put : Bool) (res : Result (Unit {0}) GaveUp) → c.kind ≡ resolved.Variant i → after.position ≡ c.after → Has adds reads within extends marks start kind now c ps → ((a mid : K) (e : Bool) (index body : List ℕ) → e ≡ is_element c.after → within a e headers.Map c.outer mid index → within mid false headers.List c.opened now.sink body → put ≡ false → extends a after.sink) → (reads.sound after.sink → reads.sound now.sink) →
     ((a mid : K) (e : Bool) (index body : List ℕ) → e ≡ is_element c.after → within a e headers.Map c.outer mid index → within mid false headers.List c.opened now.sink body → put ≡ true →
-    (reads.sound after.sink → (fits (length body) ≡ true) × (fits (length (index ++ form false headers.List c.count body)) ≡ true)) × adds a (form e headers.Map 2 (index ++ form false headers.List c.count body)) after.sink) → MatchResult res (λ _. put ≡ true) (λ _. Unit {0}) → Gives adds reads extends start (tree_of_parts kind ps) res after
-variant_ended {K} adds reads within extends marks L i start now after c kind ps put res k a h g f m = ended adds reads within extends marks L (resolved.Variant i) start now after c kind ps put res k a h g
-    (λ o p. variant_gave adds reads within extends marks L i start now.sink after.sink (kept c) kind ps o (λ b mid index body v w. f b mid (is_element start.position) index body (sym (admits_element start.position c.after 0xd1 o.gathered.stands)) v w p) g) m
+    (reads.sound after.sink → (fits (length body) ≡ true) × (fits (length (index ++ form false headers.List c.count body)) ≡ true)) × adds a (form e headers.Map 2 (index ++ form false headers.List c.count body)) after.sink) → MatchResult res (λ _. put ≡ true) (λ _. put ≡ false) → Gives adds reads extends start (tree_of_parts kind ps) res after
+variant_ended {K} adds reads within extends marks L i start now after c kind ps put res k a h g s f m = ended adds reads within extends marks L (resolved.Variant i) start now after c kind ps put res k a h
+    (λ z.
+    let o : HasIn adds reads within extends marks (resolved.Variant i) start kind now.sink (kept c) ps = subst (λ w. HasIn adds reads within extends marks w start kind now.sink (kept c) ps) k h in
+    L.on start.sink o.gathered.first after.sink (led_extends adds reads within extends L start.position 0xd1 start.sink o.gathered.first o.gathered.led) (g o.gathered.first o.gathered.out.mid (is_element start.position) (scalar_form (uint i)) (encoding_each o.gathered.ts) (sym (admits_element start.position c.after 0xd1 o.gathered.stands)) o.gathered.out.index o.gathered.out.fields z))
+    (λ o p. variant_gave adds reads within extends marks L i start now.sink after.sink (kept c) kind ps o (λ b mid index body v w. f b mid (is_element start.position) index body (sym (admits_element start.position c.after 0xd1 o.gathered.stands)) v w p) s) m
 
 pub transparent_ended : {K : Type 0} (adds : Adding K) (reads : Promises K) (within : Opening K) (extends : Extending K) (marks : Marking K) → Laws adds reads within extends → (start now after : Pass K) (c : PassCompound) (kind : CompoundKind) (ps : List (Option Tree)) → c.kind ≡ resolved.Transparent → after.position ≡ c.after → after.sink ≡ now.sink → Has adds reads within extends marks start kind now c ps → puts adds reads start.sink start.position (marked start.marker (tree_of_parts kind ps)) after.sink after.position
 transparent_ended {K} adds reads within extends marks L start now after c kind ps k a s h =

@@ -7,6 +7,7 @@ use Rattle.amqp_ser.specs.Encoding.{wide}
 use Rattle.amqp_ser.specs.Extends.{Extends}
 use Rattle.amqp_ser.proofs.Bools.{le_true}
 use Rattle.amqp_wire.specs.Forms.{form, header, counted_header, header_length, Appends, Inside, Longer, OutMarks}
+use Rattle.amqp_wire.specs.Hinted.{Held}
 use Rattle.amqp_wire.specs.declared.appender.Appender.{Appender}
 use Rattle.amqp_wire.specs.declared.sink.Opened.{Opened}
 use Rattle.amqp_wire.specs.declared.sink.Mark.{Mark}
@@ -73,19 +74,19 @@ closed_out a b e k o n body h at count fit few bound =
     )
 
 -- A buffer that is poisoned.
-pub poisoned_out : (a b c : Appender) (e : Bool) (k : HeaderKind) (o : Opened) (n : ℕ) (body : List ℕ) → Inside a e k o b body → c.poisoned ≡ true → c.out.items ≡ b.out.items → length b.out.items ≤ 18446744073709551615 →
+pub poisoned_out : (a b c : Appender) (e : Bool) (k : HeaderKind) (o : Opened) (n : ℕ) (body : List ℕ) → Inside a e k o b body → c.poisoned ≡ true → c.out.items ≡ b.out.items → Held a c → length b.out.items ≤ 18446744073709551615 →
     (c.poisoned ≡ false → (fits (length body) ≡ true) × (is_count n ≡ true)) × Appends a (form e k n body) c
-poisoned_out a b c e k o n body h s i bound = (
+poisoned_out a b c e k o n body h s i held bound = (
   λ f. absurd (true_false (sym s ∙ f)),
   record {
-    longer = ((h.longer.0.0, i ∙ h.longer.0.1), λ f. absurd (true_false (sym s ∙ f)));
+    longer = ((h.longer.0.0, i ∙ h.longer.0.1), (λ f. absurd (true_false (sym s ∙ f)), held));
     out = λ f. absurd (true_false (sym s ∙ f));
     few = subst (λ l. length l ≤ 18446744073709551615) (sym i) bound;
   },
 )
 
 -- A buffer that returned to a mark.
-pub restored_out : (a b c : Appender) (m : Mark) → OutMarks a m → Longer a b → c.out.items ≡ take m.len b.out.items → c.poisoned ≡ m.poisoned → length c.out.items ≤ 18446744073709551615 → Appends a [] c
-restored_out a b c m k h e s bound =
+pub restored_out : (a b c : Appender) (m : Mark) → OutMarks a m → Longer a b → c.out.items ≡ take m.len b.out.items → c.poisoned ≡ m.poisoned → Held a c → length c.out.items ≤ 18446744073709551615 → Appends a [] c
+restored_out a b c m k h e s held bound =
     let same : c.out.items ≡ a.out.items ++ [] = e ∙ (cut_back a.out.items b.out.items m.len k.0 h.0 ∙ sym (append-nil a.out.items)) in
-    record { longer = (([], same), λ f. sym (s ∙ k.1) ∙ f); out = λ f. same; few = bound }
+    record { longer = (([], same), (λ f. sym (s ∙ k.1.0) ∙ f, held)); out = λ f. same; few = bound }

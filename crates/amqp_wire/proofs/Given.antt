@@ -135,7 +135,7 @@ number_gave {K} adds reads chains a m b p q in_array ordinary x e f i d l h =
 
 -- The answer of a call that puts a number.
 pub number_put : {K : Type 0} (adds : Adding K) (reads : Promises K) (extends : Extending K) (s after : Pass K) (f : Fixed) (in_array ordinary : ScalarEncoding) (put : Bool) (res : Result (Unit {0}) GaveUp) → IsNumber s.marker f in_array ordinary → extends s.sink after.sink →
-    (put ≡ true → (x : Scalar) → HasForms in_array ordinary x → Gave adds reads s.sink s.position (scalar x) after.sink after.position) → MatchResult res (λ _. put ≡ true) (λ _. Unit {0}) → Gives adds reads extends s (Some (scalar (fixed_scalar f))) res after
+    (put ≡ true → (x : Scalar) → HasForms in_array ordinary x → Gave adds reads s.sink s.position (scalar x) after.sink after.position) → MatchResult res (λ _. put ≡ true) (λ _. put ≡ false) → Gives adds reads extends s (Some (scalar (fixed_scalar f))) res after
 number_put {K} adds reads extends s after f in_array ordinary put (Err e) n g h m = g
 number_put {K} adds reads extends s after f in_array ordinary put (Ok u) n g h m = subst (λ o. puts adds reads s.sink s.position o after.sink after.position) (sym n.marked_is) (h m n.value n.forms)
 
@@ -172,13 +172,13 @@ symbol_text m short long e s l bs u = record {
 
 -- The answer of a call that puts a text.
 pub text_given : {K : Type 0} (adds : Adding K) (reads : Promises K) (extends : Extending K) (s after : Pass K) (bs : List ℕ) (short long : ℕ) (put : Bool) (res : Result (Unit {0}) GaveUp) → ((b : List ℕ) → IsUtf8 b → IsText s.marker short long b) → IsUtf8 bs → extends s.sink after.sink →
-    (put ≡ true → (x : Scalar) → scalar_code x ≡ long → scalar_form x ≡ sized short long bs → scalar_payload x ≡ to_be_bytes w32 (length bs) ++ bs → scalar_fits x ≡ fits (length bs) → IsRangedScalar x → Gave adds reads s.sink s.position (scalar x) after.sink after.position) → MatchResult res (λ _. put ≡ true) (λ _. Unit {0}) → Gives adds reads extends s (Some (scalar (string bs))) res after
+    (put ≡ true → (x : Scalar) → scalar_code x ≡ long → scalar_form x ≡ sized short long bs → scalar_payload x ≡ to_be_bytes w32 (length bs) ++ bs → scalar_fits x ≡ fits (length bs) → IsRangedScalar x → Gave adds reads s.sink s.position (scalar x) after.sink after.position) → MatchResult res (λ _. put ≡ true) (λ _. put ≡ false) → Gives adds reads extends s (Some (scalar (string bs))) res after
 text_given {K} adds reads extends s after bs short long put (Err e) n u g h m = g
 text_given {K} adds reads extends s after bs short long put (Ok v) n u g h m =
     let t = n bs u in
     subst (λ o. puts adds reads s.sink s.position o after.sink after.position) (sym t.marked_is) (h m t.value t.code_is t.form t.payload t.fits_it t.ranged)
 
-joined : (e c : Bool) (short long n : ℕ) (bs : List ℕ) → pick e (if c then short ∷ n ∷ [] else long ∷ to_be_bytes w32 n) (to_be_bytes w32 n) ++ bs ≡ pick e (if c then short ∷ n ∷ bs else long ∷ (to_be_bytes w32 n ++ bs)) (to_be_bytes w32 n ++ bs)
+pub joined : (e c : Bool) (short long n : ℕ) (bs : List ℕ) → pick e (if c then short ∷ n ∷ [] else long ∷ to_be_bytes w32 n) (to_be_bytes w32 n) ++ bs ≡ pick e (if c then short ∷ n ∷ bs else long ∷ (to_be_bytes w32 n ++ bs)) (to_be_bytes w32 n ++ bs)
 joined true c short long n bs = refl
 joined false true short long n bs = refl
 joined false false short long n bs = refl

@@ -1,5 +1,8 @@
 pub mod LazyRoot
 mod FormLemmas
+mod HintLemmas
+mod AbleLemmas
+pub mod PartHints
 mod Given
 mod SinkLaws
 mod PartSteps

@@ -10,6 +10,7 @@ use Rattle.amqp_ser.proofs.Bools.{both}
 use Rattle.amqp_wire.specs.Appended.{AppendsBytesOf}
 use Rattle.amqp_wire.specs.Encoded.{IsWritten, IsInRange}
 use Rattle.amqp_wire.specs.Forms.{Appends, Inside, Longer, appends_chain, goes_inside, appends_bounded, longer_keeps, longer_self, longer_on, longer_adds, longer_inside, Counts, Any}
+use Rattle.amqp_wire.specs.Hinted.{CanAppend, TakenIn, CanCount, NotedIn}
 use Rattle.amqp_wire.specs.When.{Promises}
 use Rattle.amqp_wire.specs.Gives.{puts, Gives}
 use Rattle.amqp_wire.specs.declared.appender.Appender.{Appender}
@@ -23,10 +24,10 @@ use Rattle.amqp_wire.proofs.PartSteps.{unmarked_puts, gives_extends}
 
 -- What the sink of each pass promises.
 abbrev pub appending : Promises Appender
-appending = record { ranges = false; sound = λ a. a.poisoned ≡ false }
+appending = record { ranges = false; sound = λ a. a.poisoned ≡ false; able = CanAppend; opens = TakenIn }
 
 abbrev pub counting : Promises Counter
-counting = record { ranges = true; sound = λ _. Unit {0} }
+counting = record { ranges = true; sound = λ _. Unit {0}; able = CanCount; opens = NotedIn }
 
 written_puts : (a b : Appender) (q : Position) (o : Option Tree) → b.poisoned ≡ false → puts Appends appending a positions.Root o b q → IsWritten o a.out.items b.out.items
 written_puts a b q None z h = absurd h

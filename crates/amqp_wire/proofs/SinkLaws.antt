@@ -27,7 +27,7 @@ pub record Laws {K : Type 0} (adds : Adding K) (reads : Promises K) (within : Op
   pub longer : (a b : K) (x : List ℕ) → adds a x b → extends a b
   pub longer_within : (e : Bool) (k : HeaderKind) (o : Opened) (a b : K) (x : List ℕ) → within a e k o b x → extends a b
 
-led_extends : {K : Type 0} (adds : Adding K) (reads : Promises K) (within : Opening K) (extends : Extending K) → Laws adds reads within extends → (p : Position) (c : ℕ) (a b : K) → Led adds p c a b → extends a b
+pub led_extends : {K : Type 0} (adds : Adding K) (reads : Promises K) (within : Opening K) (extends : Extending K) → Laws adds reads within extends → (p : Position) (c : ℕ) (a b : K) → Led adds p c a b → extends a b
 led_extends adds reads within extends L positions.Root c a b h = subst (λ w. extends a w) (sym h) (L.stays a)
 led_extends adds reads within extends L positions.Inside c a b h = subst (λ w. extends a w) (sym h) (L.stays a)
 led_extends adds reads within extends L positions.Descriptor c a b h = subst (λ w. extends a w) (sym h) (L.stays a)

@@ -9,7 +9,10 @@ pub mod Strict
 pub mod When
 pub mod Positions
 pub mod Kept
+pub mod Lengths
+pub mod Hinted
 pub mod Forms
+pub mod HintLaws
 pub mod Gives
 pub mod ScalarForms
 pub mod Encoded

@@ -70,3 +70,19 @@ Took positions.Inside t q = Unit {0}
 Took positions.Descriptor t q = (c : ℕ) × ((constructor t ≡ Some c) × IsDescriptorCode c)
 Took positions.First t q = (c : ℕ) × ((constructor t ≡ Some c) × (q ≡ positions.Element c))
 Took (positions.Element d) t q = (constructor t ≡ Some d) × (q ≡ positions.Element d)
+
+-- A value with this constructor may be here.
+abbrev pub Welcomes : Position → ℕ → Type 0
+Welcomes positions.Root c = Unit {0}
+Welcomes positions.Inside c = Unit {0}
+Welcomes positions.Descriptor c = IsDescriptorCode c
+Welcomes positions.First c = Unit {0}
+Welcomes (positions.Element d) c = d ≡ c
+
+-- The bytes before a value with this constructor.
+abbrev pub lead : Position → ℕ → List ℕ
+lead positions.Root c = []
+lead positions.Inside c = []
+lead positions.Descriptor c = []
+lead positions.First c = c ∷ []
+lead (positions.Element d) c = []

@@ -1,5 +1,5 @@
 -- The forms of scalars, in an array and elsewhere.
-use Rattle.std.specs.Prelude.{◌≡◌, ℕ, List, ◌++◌, Option, Some, true, length}
+use Rattle.std.specs.Prelude.{◌≡◌, ◌⊎◌, ℕ, List, ◌++◌, Option, Some, true, length}
 use Rattle.std.specs.Int.{w32, to_be_bytes}
 use Rattle.amqp_ser.specs.Tree.{Scalar, scalar, string}
 use Rattle.amqp_ser.specs.Fixed.{fixed_scalar}
@@ -36,3 +36,7 @@ pub record IsText (m : Option Marker) (short long : ℕ) (bs : List ℕ) : Type 
   pub payload : scalar_payload value ≡ to_be_bytes w32 (length bs) ++ bs
   pub fits_it : scalar_fits value ≡ fits (length bs)
   pub ranged : IsRangedScalar value
+
+-- The widths of numbers.
+abbrev pub IsWidth : ℕ → Type 0
+IsWidth n = (n ≡ 0) ⊎ ((n ≡ 1) ⊎ ((n ≡ 2) ⊎ ((n ≡ 4) ⊎ (n ≡ 8))))

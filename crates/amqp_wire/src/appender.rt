@@ -24,7 +24,9 @@ pub struct Appender {
 
 impl Appender {
     ghost use Rattle.std.specs.Prelude.{◌+◌};
+    ghost use Rattle.std.specs.Vec.{vec_capacity};
     ghost use Rattle.amqp_wire.specs.Forms.{Appends, header};
+    ghost use Rattle.amqp_wire.specs.Lengths.{FitsHint};
 
     /// Creates an appender.
     #[inline(always)]
@@ -42,7 +44,10 @@ impl Appender {
     /// Appends a few bytes.
     #[inline(always)]
     fn put(&mut self, bytes: &[u8])
-        ensures { Appends self.old bytes.now self.new }
+        ensures put { Appends self.old bytes.now self.new }
+        ensures hints { self.new.hints ≡ self.old.hints }
+        ensures room { length self.old.out.items + length bytes.now ≤ vec_capacity self.old.out →
+            self.new.poisoned ≡ self.old.poisoned }
     {
         if bytes.len() > self.out.capacity() - self.out.len() {
             self.poisoned = true;
@@ -56,7 +61,11 @@ impl Appender {
     /// Appends a header for `count` parts of `len` bytes.
     #[inline(always)]
     fn header(&mut self, element: bool, kind: HeaderKind, len: u32, count: u32)
-        ensures { Appends self.old (header element kind count len) self.new }
+        ensures put { Appends self.old (header element kind count len) self.new }
+        ensures hints { self.new.hints ≡ self.old.hints }
+        ensures room { FitsHint kind len count →
+            length self.old.out.items + length (header element kind count len) ≤ vec_capacity self.old.out →
+            self.new.poisoned ≡ self.old.poisoned }
     {
         if let Some(bytes) = short_header(element, kind, len, count) {
             return self.put(&bytes);
@@ -74,6 +83,8 @@ impl Appender {
         ensures count { result ≡ true → count ≡ opened.count }
         ensures fits { result ≡ true → opened.at ≤ 4294967291 }
         ensures few { result ≡ true → count ≤ 4294967295 }
+        ensures right { opened.at + opened.start ≡ length self.now.out.items → count ≡ opened.count →
+            opened.at ≤ 4294967291 → count ≤ 4294967295 → result ≡ true }
     {
         if self.out.len() < opened.start {
             return false;
@@ -89,6 +100,8 @@ impl Sink for Appender {
     ghost use Rattle.amqp_wire.specs.Forms.{Appends, Inside, Longer, OutMarks, appends_chain};
     ghost use Rattle.amqp_wire.specs.Forms.{goes_inside, appends_bounded, longer_keeps};
     ghost use Rattle.amqp_wire.specs.Forms.{longer_self, longer_on, longer_adds, longer_inside};
+    ghost use Rattle.amqp_wire.specs.Hinted.{CanAppend, TakenIn};
+    ghost use Rattle.amqp_wire.specs.HintLaws.{taken_on, taken_able};
 
     ghost adds = { Appends };
 
@@ -98,7 +111,7 @@ impl Sink for Appender {
 
     ghost marks = { OutMarks };
 
-    ghost reads = { record { ranges = false; sound = λ a. a.poisoned ≡ false } };
+    ghost reads = { record { ranges = false; sound = λ a. a.poisoned ≡ false; able = CanAppend; opens = TakenIn } };
 
     ghost keeps = { longer_keeps };
 
@@ -116,15 +129,21 @@ impl Sink for Appender {
 
     ghost longer_within = { longer_inside };
 
+    ghost opens_on = { taken_on };
+
+    ghost opens_able = { taken_able };
+
     #[inline(always)]
     fn rest(&mut self) {}
 
+    #[tactic(auto, using(crate::proofs::HintLemmas::bytes_moves))]
     #[inline(always)]
     fn few(&mut self, bytes: &[u8]) -> bool {
         self.put(bytes);
         true
     }
 
+    #[tactic(auto, using(crate::proofs::HintLemmas::bytes_moves))]
     #[inline(always)]
     fn bytes(&mut self, bytes: &[u8]) -> bool {
         if bytes.len() > self.out.capacity() - self.out.len() {
@@ -140,6 +159,7 @@ impl Sink for Appender {
         }
     }
 
+    #[tactic(auto, using(crate::proofs::HintLemmas::opened_taken, crate::proofs::HintLemmas::no_hint))]
     #[inline(always)]
     fn open(&mut self, element: bool, kind: HeaderKind) -> Opened {
         let Some(hint) = self.hints.next() else {
@@ -158,7 +178,7 @@ impl Sink for Appender {
         }
     }
 
-    #[tactic(auto, using(crate::proofs::FormLemmas::closed_out, crate::proofs::FormLemmas::poisoned_out))]
+    #[tactic(auto, using(crate::proofs::FormLemmas::closed_out, crate::proofs::FormLemmas::poisoned_out, crate::proofs::HintLemmas::closed_moves, crate::proofs::HintLemmas::refused_moves))]
     #[inline(always)]
     fn close(&mut self, _element: bool, _kind: HeaderKind, opened: Opened, count: usize) -> bool {
         if self.fits_hint(opened, count) {
@@ -168,6 +188,7 @@ impl Sink for Appender {
         true
     }
 
+    #[tactic(auto, using(crate::proofs::HintLemmas::whole_moves))]
     #[inline(always)]
     fn whole<W: Whole>(&mut self, whole: &W) -> bool {
         self.hints.write_whole(whole, &mut self.out)
@@ -182,7 +203,7 @@ impl Sink for Appender {
         }
     }
 
-    #[tactic(auto, using(crate::proofs::FormLemmas::restored_out))]
+    #[tactic(auto, using(crate::proofs::FormLemmas::restored_out, crate::proofs::HintLemmas::restored_moves))]
     #[inline(always)]
     fn restore(&mut self, mark: Mark) {
         self.out.truncate(mark.len);

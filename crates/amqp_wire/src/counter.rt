@@ -1,6 +1,6 @@
 //! A sink that counts bytes.
 
-ghost use Rattle.std.specs.Prelude.{◌≡◌, true};
+ghost use Rattle.std.specs.Prelude.{◌≡◌, ◌≤◌, ◌+◌, true, false};
 ghost use Rattle.amqp_wire.specs.Forms.{header_length, CountsTo};
 
 use crate::hints::Hints;
@@ -21,7 +21,9 @@ impl Counter {
     /// Counts `n` bytes, if a number can count all.
     #[inline(always)]
     fn count(&mut self, n: usize) -> bool
-        ensures { result ≡ true → CountsTo self.old n self.new }
+        ensures put { result ≡ true → CountsTo self.old n self.new }
+        ensures hints { self.new.hints ≡ self.old.hints }
+        ensures succeeds { self.old.len + n ≤ 18446744073709551615 → result ≡ true }
     {
         match self.len.checked_add(n) {
             Some(len) => {
@@ -37,6 +39,8 @@ impl Sink for Counter {
     ghost use Rattle.amqp_wire.specs.Forms.{Counts, Counted, CountMarks, Any, counts_chain};
     ghost use Rattle.amqp_wire.specs.Forms.{counts_inside, counts_bounded, any, any_on, any_adds};
     ghost use Rattle.amqp_wire.specs.Forms.{any_within, any_keeps};
+    ghost use Rattle.amqp_wire.specs.Hinted.{CanCount, NotedIn};
+    ghost use Rattle.amqp_wire.specs.HintLaws.{noted_on, noted_able};
 
     ghost adds = { Counts };
 
@@ -46,7 +50,7 @@ impl Sink for Counter {
 
     ghost marks = { CountMarks };
 
-    ghost reads = { record { ranges = true; sound = λ _. Unit {0} } };
+    ghost reads = { record { ranges = true; sound = λ _. Unit {0}; able = CanCount; opens = NotedIn } };
 
     ghost keeps = { any_keeps };
 
@@ -63,6 +67,10 @@ impl Sink for Counter {
     ghost longer = { any_adds };
 
     ghost longer_within = { any_within };
+
+    ghost opens_on = { noted_on };
+
+    ghost opens_able = { noted_able };
 
     #[inline(always)]
     fn rest(&mut self) {
@@ -88,7 +96,7 @@ impl Sink for Counter {
         }
     }
 
-    #[tactic(auto, using(crate::proofs::FormLemmas::form_length))]
+    #[tactic(auto, using(crate::proofs::HintLemmas::closed_counts, crate::proofs::HintLemmas::noted_closed))]
     #[inline(always)]
     fn close(&mut self, element: bool, kind: HeaderKind, opened: Opened, count: usize) -> bool {
         if self.len < opened.start {
@@ -98,8 +106,11 @@ impl Sink for Counter {
         if body > MAX_LEN || count > MAX_COUNT {
             return false;
         }
+        if !self.count(header_length(element, kind, body, count)) {
+            return false;
+        }
         self.hints.close(opened.at, body as u32, count as u32);
-        self.count(header_length(element, kind, body, count))
+        true
     }
 
     #[inline(always)]
@@ -119,6 +130,7 @@ impl Sink for Counter {
         }
     }
 
+    #[tactic(auto, using(crate::proofs::HintLemmas::restored_counts, crate::proofs::HintLemmas::restored_noted))]
     #[inline(always)]
     fn restore(&mut self, mark: Mark) {
         self.len = mark.len;

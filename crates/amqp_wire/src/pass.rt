@@ -1,7 +1,8 @@
 //! A pass over a value that may give up.
 
 ghost use Rattle.std.specs.Prelude.{◌≡◌, ◌++◌, ◌∷◌, [], List, ℕ, Some, Result, MatchResult, IfSome};
-ghost use Rattle.std.specs.Prelude.{true, length};
+ghost use Rattle.std.specs.Prelude.{true, false, length, is_some};
+ghost use Rattle.amqp_frame.specs.Whole.{is_encoded_value};
 ghost use Rattle.std.specs.Int.{w32, to_be_bytes};
 ghost use Rattle.amqp_ser.specs.Tree.{Scalar, scalar, binary};
 ghost use Rattle.amqp_ser.specs.Limits.{fits};
@@ -9,7 +10,8 @@ ghost use Rattle.amqp_ser.specs.Ranged.{AreBytes, IsRangedScalar};
 ghost use Rattle.amqp_ser.specs.Scalars.{scalar_code, scalar_form, scalar_payload, sized};
 ghost use Rattle.amqp_ser.specs.Writable.{scalar_fits};
 ghost use Rattle.amqp_size.specs.MarkedBytes.{marked_bytes};
-ghost use Rattle.amqp_wire.specs.Positions.{is_element, Admits, IsOrdinary, Led};
+ghost use Rattle.amqp_wire.specs.Positions.{is_element, Admits, IsOrdinary, Led, Welcomes, lead, bytes_at};
+ghost use Rattle.amqp_wire.specs.When.{Moves, Succeeds};
 
 use crate::position::{Position, is_descriptor_code};
 use crate::put::{put_exact, put_number, put_text};
@@ -38,14 +40,14 @@ pub struct Pass<K> {
 /// Returns an error if the sink refused the bytes.
 #[inline(always)]
 pub(crate) fn done(put: bool) -> Result<(), GaveUp>
-    ensures { MatchResult result (λ _. put ≡ true) (λ _. Unit {0}) }
+    ensures { MatchResult result (λ _. put ≡ true) (λ _. put ≡ false) }
 {
     if put { Ok(()) } else { Err(GaveUp) }
 }
 
 impl<K: Sink> Pass<K> {
     ghost use Rattle.amqp_wire.specs.Gives.{Gave, puts};
-    ghost use Rattle.amqp_wire.specs.ScalarForms.{HasForms};
+    ghost use Rattle.amqp_wire.specs.ScalarForms.{HasForms, IsWidth};
     ghost use Rattle.amqp_ser.specs.Marked.{with_marker};
 
     /// Creates a pass at the root.
@@ -85,6 +87,10 @@ impl<K: Sink> Pass<K> {
         ensures admitted { result ≡ true → Admits self.old.position code self.new.position }
         ensures led { result ≡ true →
             Led K.adds self.old.position code self.old.sink self.new.sink }
+        ensures succeeds { Welcomes self.old.position code → Succeeds K.reads.able self.old.sink
+            (length (lead self.old.position code)) [] result }
+        ensures moves { result ≡ true → Moves K.reads.able self.old.sink
+            (length (lead self.old.position code)) [] self.new.sink }
     {
         match self.position {
             Position::Root => true,
@@ -102,6 +108,11 @@ impl<K: Sink> Pass<K> {
     #[inline(always)]
     pub(crate) fn number(&mut self, in_array: ScalarEncoding, ordinary: ScalarEncoding) -> bool
         ensures grown { K.extends self.old.sink self.new.sink }
+        ensures succeeds { (x : Scalar) → HasForms in_array ordinary x → IsWidth in_array.width →
+            IsWidth ordinary.width → Welcomes self.old.position in_array.code →
+            Succeeds K.reads.able self.old.sink (length (bytes_at self.old.position (scalar x))) [] result }
+        ensures moves { result ≡ true → (x : Scalar) → HasForms in_array ordinary x →
+            Moves K.reads.able self.old.sink (length (bytes_at self.old.position (scalar x))) [] self.new.sink }
         ensures gave { result ≡ true → (x : Scalar) → HasForms in_array ordinary x →
             Gave K.adds K.reads self.old.sink self.old.position (scalar x) self.new.sink self.new.position }
     {
@@ -117,6 +128,15 @@ impl<K: Sink> Pass<K> {
     #[inline(always)]
     pub(crate) fn text(&mut self, short: u8, long: u8, bytes: &[u8]) -> bool
         ensures grown { K.extends self.old.sink self.new.sink }
+        ensures succeeds { (x : Scalar) → scalar_code x ≡ long →
+            scalar_form x ≡ sized short long bytes.now →
+            scalar_payload x ≡ to_be_bytes w32 (length bytes.now) ++ bytes.now →
+            fits (length bytes.now) ≡ true → Welcomes self.old.position long →
+            Succeeds K.reads.able self.old.sink (length (bytes_at self.old.position (scalar x))) [] result }
+        ensures moves { result ≡ true → (x : Scalar) → scalar_code x ≡ long →
+            scalar_form x ≡ sized short long bytes.now →
+            scalar_payload x ≡ to_be_bytes w32 (length bytes.now) ++ bytes.now →
+            Moves K.reads.able self.old.sink (length (bytes_at self.old.position (scalar x))) [] self.new.sink }
         ensures gave { result ≡ true → (x : Scalar) → scalar_code x ≡ long →
             scalar_form x ≡ sized short long bytes.now →
             scalar_payload x ≡ to_be_bytes w32 (length bytes.now) ++ bytes.now →
@@ -135,6 +155,13 @@ impl<K: Sink> Pass<K> {
     #[inline(always)]
     pub(crate) fn exact(&mut self, code: u8, bytes: &[u8]) -> bool
         ensures grown { K.extends self.old.sink self.new.sink }
+        ensures succeeds { (x : Scalar) → scalar_code x ≡ code →
+            scalar_form x ≡ code ∷ bytes.now → scalar_payload x ≡ bytes.now →
+            Welcomes self.old.position code →
+            Succeeds K.reads.able self.old.sink (length (bytes_at self.old.position (scalar x))) [] result }
+        ensures moves { result ≡ true → (x : Scalar) → scalar_code x ≡ code →
+            scalar_form x ≡ code ∷ bytes.now → scalar_payload x ≡ bytes.now →
+            Moves K.reads.able self.old.sink (length (bytes_at self.old.position (scalar x))) [] self.new.sink }
         ensures gave { result ≡ true → (x : Scalar) → scalar_code x ≡ code →
             scalar_form x ≡ code ∷ bytes.now → scalar_payload x ≡ bytes.now →
             scalar_fits x ≡ true → IsRangedScalar x →
@@ -166,6 +193,10 @@ impl<K: Sink> Pass<K> {
     #[inline(never)]
     pub(crate) fn lazy(&mut self, bytes: &[u8]) -> bool
         ensures grown { K.extends self.old.sink self.new.sink }
+        ensures succeeds { is_encoded_value bytes.now ≡ true → IsOrdinary self.old.position →
+            Succeeds K.reads.able self.old.sink (length bytes.now) [] result }
+        ensures moves { result ≡ true →
+            Moves K.reads.able self.old.sink (length bytes.now) [] self.new.sink }
         ensures gave { result ≡ true → AreBytes bytes.now →
             puts K.adds K.reads self.old.sink self.old.position
             (with_marker Marker.Lazy (Some (scalar (binary bytes.now)))) self.new.sink
@@ -206,6 +237,11 @@ impl<K: Sink> Pass<K> {
         ensures opened { IfSome result (λ o. (m : K)
             × (Led K.adds self.old.position code self.old.sink m
             × K.within m (is_element self.old.position) kind o self.new.sink [])) }
+        ensures hinted { IfSome result (λ o. (m : K)
+            × (Moves K.reads.able self.old.sink (length (lead self.old.position code)) [] m
+            × K.reads.opens m (is_element self.old.position) kind o self.new.sink 0 [])) }
+        ensures succeeds { Welcomes self.old.position code → Succeeds K.reads.able self.old.sink
+            (length (lead self.old.position code)) [] (is_some result) }
     {
         let element = self.position.is_element();
         if !self.admit(code) {

@@ -1,11 +1,15 @@
 //! Opens and closes the compounds of a pass.
 
-ghost use Rattle.std.specs.Prelude.{◌≡◌, ◌++◌, [], List, ℕ, Some, true, false, length};
+ghost use Rattle.std.specs.Prelude.{◌≡◌, ◌+◌, ◌++◌, ◌∷◌, [], List, ℕ, Some, true, false, length};
 ghost use Rattle.amqp_ser.specs.Tree.{uint, no_trees};
 ghost use Rattle.amqp_ser.specs.Scalars.{scalar_form};
 ghost use Rattle.amqp_ser.specs.Limits.{fits};
 ghost use Rattle.amqp_wire.specs.Forms.{form};
 ghost use Rattle.amqp_wire.specs.Gives.{HasHeader, header_of, code_of, inner};
+ghost use Rattle.amqp_ser.specs.Limits.{is_count};
+ghost use Rattle.amqp_ser.specs.Hints.{hint};
+ghost use Rattle.amqp_wire.specs.Lengths.{header_length, FitsHint};
+ghost use Rattle.amqp_wire.specs.When.{Moves, Succeeds};
 
 use crate::pass::Pass;
 use crate::pass_compound::{NO_HEADER, PassCompound};
@@ -71,6 +75,7 @@ fn first_position(kind: ResolvedKind) -> Position
 
 impl<K: Sink> Pass<K> {
     ghost use Rattle.amqp_wire.specs.Gives.{Has, kind_of, marker_of};
+    ghost use Rattle.amqp_ser.specs.declared.hint.Hint.{Hint};
     ghost use Rattle.amqp_ser.specs.declared.kind.CompoundKind.{CompoundKind};
 
     /// Opens a single compound.
@@ -176,7 +181,11 @@ impl<K: Sink> Pass<K> {
         opened: Opened,
         count: usize,
     ) -> bool
-        ensures grown { K.extends self.old.sink self.new.sink }
+        ensures grown { (start mid : K) (index body : List ℕ) →
+            K.within start element HeaderKind.Map outer mid index →
+            K.within mid false HeaderKind.List opened self.old.sink body →
+            result ≡ false → K.extends start self.new.sink }
+        ensures keeps { K.reads.sound self.new.sink → K.reads.sound self.old.sink }
         ensures position { self.new.position ≡ self.old.position }
         ensures put { (start mid : K) (index body : List ℕ) →
             K.within start element HeaderKind.Map outer mid index →
@@ -186,6 +195,31 @@ impl<K: Sink> Pass<K> {
             × (fits (length (index ++ form false HeaderKind.List count body)) ≡ true))
             × K.adds start (form element HeaderKind.Map 2
             (index ++ form false HeaderKind.List count body)) self.new.sink }
+        ensures succeeds { (start mid : K) (index body : List ℕ) (hs : List Hint) →
+            K.within start element HeaderKind.Map outer mid index →
+            K.reads.opens start element HeaderKind.Map outer mid (length index) [] →
+            K.within mid false HeaderKind.List opened self.old.sink body →
+            K.reads.opens mid false HeaderKind.List opened self.old.sink (length body) hs →
+            fits (length body) ≡ true → is_count count ≡ true → FitsHint HeaderKind.List (length body) count →
+            fits (length (index ++ form false HeaderKind.List count body)) ≡ true →
+            FitsHint HeaderKind.Map (length (index ++ form false HeaderKind.List count body)) 2 →
+            Succeeds K.reads.able start (header_length element HeaderKind.Map
+            (length (index ++ form false HeaderKind.List count body)) 2
+            + length (index ++ form false HeaderKind.List count body))
+            (hint (length (index ++ form false HeaderKind.List count body)) 2
+            ∷ (hint (length body) count ∷ hs)) result }
+        ensures moves { (start mid : K) (index body : List ℕ) (hs : List Hint) →
+            K.within start element HeaderKind.Map outer mid index →
+            K.reads.opens start element HeaderKind.Map outer mid (length index) [] →
+            K.within mid false HeaderKind.List opened self.old.sink body →
+            K.reads.opens mid false HeaderKind.List opened self.old.sink (length body) hs →
+            result ≡ true → FitsHint HeaderKind.List (length body) count →
+            FitsHint HeaderKind.Map (length (index ++ form false HeaderKind.List count body)) 2 →
+            Moves K.reads.able start (header_length element HeaderKind.Map
+            (length (index ++ form false HeaderKind.List count body)) 2
+            + length (index ++ form false HeaderKind.List count body))
+            (hint (length (index ++ form false HeaderKind.List count body)) 2
+            ∷ (hint (length body) count ∷ hs)) self.new.sink }
     {
         if !self.sink.close(false, HeaderKind::List, opened, count) {
             return false;

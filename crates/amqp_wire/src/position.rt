@@ -39,7 +39,8 @@ impl Position {
 /// Returns whether a value with this constructor is a ulong or a symbol.
 #[inline(always)]
 pub(crate) fn is_descriptor_code(code: u8) -> bool
-    ensures { result ≡ true → IsDescriptorCode code }
+    ensures code { result ≡ true → IsDescriptorCode code }
+    ensures only { IsDescriptorCode code → result ≡ true }
 {
     if code == EncodingCodes::Ulong as u8 {
         return true;

@@ -8,7 +8,8 @@ ghost use Rattle.amqp_ser.specs.Tree.{uint};
 ghost use Rattle.amqp_size.specs.ScalarEncoding.{form_bytes, form_payload};
 ghost use Rattle.amqp_wire.specs.Positions.{pick};
 ghost use Rattle.std.specs.Str.{IsUtf8};
-ghost use Rattle.amqp_wire.specs.ScalarForms.{IsNumber, IsText};
+ghost use Rattle.amqp_wire.specs.ScalarForms.{IsNumber, IsText, IsWidth};
+ghost use Rattle.amqp_wire.specs.When.{Moves, Succeeds};
 
 use crate::sink::Sink;
 use amqp_data::EncodingCodes;
@@ -21,6 +22,10 @@ use amqp_size::width::MAX_LEN;
 fn put_form<K: Sink>(sink: &mut K, form: ScalarEncoding) -> bool
     ensures grown { K.extends sink.old sink.new }
     ensures put { result ≡ true → K.adds sink.old (form_bytes form) sink.new }
+    ensures succeeds { IsWidth form.width → Succeeds K.reads.able sink.old
+        (length ((form_bytes form))) [] result }
+    ensures moves { result ≡ true → Moves K.reads.able sink.old
+        (length ((form_bytes form))) [] sink.new }
 {
     let [a, b, c, d, e, f, g, h] = form.bits.to_be_bytes();
     match form.width {
@@ -38,6 +43,10 @@ fn put_form<K: Sink>(sink: &mut K, form: ScalarEncoding) -> bool
 fn put_payload<K: Sink>(sink: &mut K, form: ScalarEncoding) -> bool
     ensures grown { K.extends sink.old sink.new }
     ensures put { result ≡ true → K.adds sink.old (form_payload form) sink.new }
+    ensures succeeds { IsWidth form.width → Succeeds K.reads.able sink.old
+        (length ((form_payload form))) [] result }
+    ensures moves { result ≡ true → Moves K.reads.able sink.old
+        (length ((form_payload form))) [] sink.new }
 {
     let [a, b, c, d, e, f, g, h] = form.bits.to_be_bytes();
     match form.width {
@@ -61,6 +70,10 @@ pub(crate) fn put_number<K: Sink>(
     ensures grown { K.extends sink.old sink.new }
     ensures put { result ≡ true → K.adds sink.old
         (pick element (form_bytes ordinary) (form_payload in_array)) sink.new }
+    ensures succeeds { IsWidth in_array.width → IsWidth ordinary.width → Succeeds K.reads.able sink.old
+        (length ((pick element (form_bytes ordinary) (form_payload in_array)))) [] result }
+    ensures moves { result ≡ true → Moves K.reads.able sink.old
+        (length ((pick element (form_bytes ordinary) (form_payload in_array)))) [] sink.new }
 {
     if element {
         put_payload(sink, in_array)
@@ -74,6 +87,10 @@ pub(crate) fn put_number<K: Sink>(
 pub(crate) fn put_index<K: Sink>(sink: &mut K, index: u32) -> bool
     ensures grown { K.extends sink.old sink.new }
     ensures put { result ≡ true → K.adds sink.old (scalar_form (uint index)) sink.new }
+    ensures succeeds { Succeeds K.reads.able sink.old
+        (length ((scalar_form (uint index)))) [] result }
+    ensures moves { result ≡ true → Moves K.reads.able sink.old
+        (length ((scalar_form (uint index)))) [] sink.new }
 {
     put_form(sink, ScalarEncoding::ordinary(Fixed::Uint(index)))
 }
@@ -83,6 +100,10 @@ pub(crate) fn put_index<K: Sink>(sink: &mut K, index: u32) -> bool
 fn put_both<K: Sink>(sink: &mut K, few: &[u8], bytes: &[u8]) -> bool
     ensures grown { K.extends sink.old sink.new }
     ensures put { result ≡ true → K.adds sink.old (few.now ++ bytes.now) sink.new }
+    ensures succeeds { Succeeds K.reads.able sink.old
+        (length ((few.now ++ bytes.now))) [] result }
+    ensures moves { result ≡ true → Moves K.reads.able sink.old
+        (length ((few.now ++ bytes.now))) [] sink.new }
 {
     if !sink.few(few) {
         return false;
@@ -98,6 +119,10 @@ fn put_len<K: Sink>(sink: &mut K, element: bool, short: u8, long: u8, n: u32) ->
     ensures put { result ≡ true → K.adds sink.old (pick element
         (if is_short n then short ∷ n ∷ [] else long ∷ to_be_bytes w32 n) (to_be_bytes w32 n))
         sink.new }
+    ensures succeeds { Succeeds K.reads.able sink.old
+        (length ((pick element (if is_short n then short ∷ n ∷ [] else long ∷ to_be_bytes w32 n) (to_be_bytes w32 n)))) [] result }
+    ensures moves { result ≡ true → Moves K.reads.able sink.old
+        (length ((pick element (if is_short n then short ∷ n ∷ [] else long ∷ to_be_bytes w32 n) (to_be_bytes w32 n)))) [] sink.new }
 {
     if element {
         return sink.few(&n.to_be_bytes());
@@ -122,6 +147,10 @@ pub(crate) fn put_text<K: Sink>(
     ensures fits { result ≡ true → fits (length bytes.now) ≡ true }
     ensures put { result ≡ true → K.adds sink.old (pick element (sized short long bytes.now)
         (to_be_bytes w32 (length bytes.now) ++ bytes.now)) sink.new }
+    ensures succeeds { fits (length bytes.now) ≡ true → Succeeds K.reads.able sink.old
+        (length ((pick element (sized short long bytes.now) (to_be_bytes w32 (length bytes.now) ++ bytes.now)))) [] result }
+    ensures moves { result ≡ true → Moves K.reads.able sink.old
+        (length ((pick element (sized short long bytes.now) (to_be_bytes w32 (length bytes.now) ++ bytes.now)))) [] sink.new }
 {
     let n = bytes.len();
     if n > MAX_LEN {
@@ -139,6 +168,10 @@ pub(crate) fn put_exact<K: Sink>(sink: &mut K, element: bool, code: u8, bytes: &
     ensures grown { K.extends sink.old sink.new }
     ensures put { result ≡ true → K.adds sink.old (pick element (code ∷ bytes.now) bytes.now)
         sink.new }
+    ensures succeeds { Succeeds K.reads.able sink.old
+        (length ((pick element (code ∷ bytes.now) bytes.now))) [] result }
+    ensures moves { result ≡ true → Moves K.reads.able sink.old
+        (length ((pick element (code ∷ bytes.now) bytes.now))) [] sink.new }
 {
     if element {
         return sink.bytes(bytes);

@@ -1,12 +1,14 @@
 //! What a pass does with the bytes of an encoding: it counts them, or appends them to a buffer.
 
-ghost use Rattle.std.specs.Prelude.{◌≡◌, ◌≤◌, ◌++◌, [], List, ℕ, Bool, true, length};
+ghost use Rattle.std.specs.Prelude.{◌≡◌, ◌≤◌, ◌++◌, ◌∷◌, ◌+◌, [], List, ℕ, Bool, true, false, length};
 ghost use Rattle.amqp_ser.specs.Limits.{fits, is_count};
 ghost use Rattle.amqp_ser.specs.Encoding.{encoding};
 ghost use Rattle.amqp_ser.specs.Ranged.{IsRanged};
 ghost use Rattle.amqp_ser.specs.Writable.{within_limits, uniform_arrays, inside};
 ghost use Rattle.amqp_wire.specs.Forms.{form};
-ghost use Rattle.amqp_wire.specs.When.{Promises, When};
+ghost use Rattle.amqp_ser.specs.Hints.{hint, hints_of};
+ghost use Rattle.amqp_wire.specs.Lengths.{header_length, FitsHint};
+ghost use Rattle.amqp_wire.specs.When.{Promises, When, Moves, Succeeds};
 
 use amqp_ser::Whole;
 
@@ -48,6 +50,7 @@ pub trait Sink: Drop {
     ghost use Rattle.amqp_wire.specs.declared.sink.HeaderKind.{HeaderKind};
     ghost use Rattle.amqp_wire.specs.declared.sink.Opened.{Opened};
     ghost use Rattle.amqp_wire.specs.declared.sink.Mark.{Mark};
+    ghost use Rattle.amqp_ser.specs.declared.hint.Hint.{Hint};
 
     /// The bytes were added to the first sink, which gave the second one.
     ghost adds: { Self → List ℕ → Self → Type 0 };
@@ -62,8 +65,8 @@ pub trait Sink: Drop {
     /// The mark of the sink.
     ghost marks: { Self → Mark → Type 0 };
 
-    /// What is promised of the values that are added: whether they are in range, and which sinks
-    /// have all bytes.
+    /// What is promised of the values that are added: whether they are in range, which sinks have
+    /// all bytes, and which are able to add more.
     ghost reads: { Promises Self };
 
     /// Bytes after bytes.
@@ -93,32 +96,62 @@ pub trait Sink: Drop {
     ghost longer_within: { (e : Bool) (k : HeaderKind) (o : Opened) (a b : Self) (x : List ℕ) →
         within a e k o b x → extends a b };
 
+    /// Bytes with their hints after bytes of parts.
+    ghost opens_on: { (e : Bool) (k : HeaderKind) (o : Opened) (a b c : Self) (x y : List ℕ)
+        (hs gs : List Hint) → within a e k o b x → reads.opens a e k o b (length x) hs →
+        adds b y c → Moves reads.able b (length y) gs c →
+        reads.opens a e k o c (length x + length y) (hs ++ gs) };
+
+    /// In a compound of a sink that was able to add it, the sink is able to add the rest.
+    ghost opens_able: { (e : Bool) (k : HeaderKind) (o : Opened) (a b : Self) (x : List ℕ)
+        (hs : List Hint) → within a e k o b x → reads.opens a e k o b (length x) hs →
+        (len n m : ℕ) (gs all : List Hint) → FitsHint k len n →
+        reads.able a (header_length e k len n + (length x + m)) (hint len n ∷ (hs ++ gs)) all →
+        (rest : List Hint) × reads.able b m gs rest };
+
     /// Adds no bytes.
     fn rest(&mut self)
-        ensures { adds self.old [] self.new };
+        ensures put { adds self.old [] self.new }
+        ensures moves { Moves reads.able self.old 0 [] self.new };
 
     /// Adds few bytes.
     fn few(&mut self, bytes: &[u8]) -> bool
         ensures grown { extends self.old self.new }
-        ensures put { result ≡ true → adds self.old bytes.now self.new };
+        ensures put { result ≡ true → adds self.old bytes.now self.new }
+        ensures succeeds { Succeeds reads.able self.old (length bytes.now) [] result }
+        ensures moves { result ≡ true → Moves reads.able self.old (length bytes.now) [] self.new };
 
     /// Adds bytes.
     fn bytes(&mut self, bytes: &[u8]) -> bool
         ensures grown { extends self.old self.new }
-        ensures put { result ≡ true → adds self.old bytes.now self.new };
+        ensures put { result ≡ true → adds self.old bytes.now self.new }
+        ensures succeeds { Succeeds reads.able self.old (length bytes.now) [] result }
+        ensures moves { result ≡ true → Moves reads.able self.old (length bytes.now) [] self.new };
 
     /// Begins a compound.
     fn open(&mut self, element: bool, kind: HeaderKind) -> Opened
         ensures grown { extends self.old self.new }
-        ensures opened { within self.old element kind result self.new [] };
+        ensures opened { within self.old element kind result self.new [] }
+        ensures hinted { reads.opens self.old element kind result self.new 0 [] };
 
     /// Ends a compound of `count` parts.
     fn close(&mut self, element: bool, kind: HeaderKind, opened: Opened, count: usize) -> bool
-        ensures grown { extends self.old self.new }
+        ensures grown { result ≡ false → extends self.old self.new }
+        ensures keeps { reads.sound self.new → reads.sound self.old }
         ensures put { (start : Self) (body : List ℕ) →
             within start element kind opened self.old body → result ≡ true →
             (reads.sound self.new → (fits (length body) ≡ true) × (is_count count ≡ true))
-            × adds start (form element kind count body) self.new };
+            × adds start (form element kind count body) self.new }
+        ensures succeeds { (start : Self) (body : List ℕ) → within start element kind opened self.old body →
+            fits (length body) ≡ true → is_count count ≡ true → (hs : List Hint) →
+            Succeeds reads.able start (header_length element kind (length body) count + length body)
+            (hint (length body) count ∷ hs) result }
+        ensures moves { (start : Self) (body : List ℕ) (hs : List Hint) →
+            within start element kind opened self.old body →
+            reads.opens start element kind opened self.old (length body) hs → result ≡ true →
+            FitsHint kind (length body) count →
+            Moves reads.able start (header_length element kind (length body) count + length body)
+            (hint (length body) count ∷ hs) self.new };
 
     /// Adds a value without its parts being added one by one, or fails.
     fn whole<W: Whole>(&mut self, whole: &W) -> bool
@@ -127,7 +160,9 @@ pub trait Sink: Drop {
             × ((uniform_arrays (W.whole_tree whole.now) ≡ true)
             × ((inside (W.whole_tree whole.now) ≡ true)
             × adds self.old (encoding (W.whole_tree whole.now)) self.new)) }
-        ensures ranged { result ≡ true → When reads.ranges (IsRanged (W.whole_tree whole.now)) };
+        ensures ranged { result ≡ true → When reads.ranges (IsRanged (W.whole_tree whole.now)) }
+        ensures moves { result ≡ true → Moves reads.able self.old
+            (length (encoding (W.whole_tree whole.now))) (hints_of (W.whole_tree whole.now)) self.new };
 
     /// Returns the mark.
     fn mark(&self) -> Mark
@@ -135,5 +170,7 @@ pub trait Sink: Drop {
 
     /// Returns to a mark.
     fn restore(&mut self, mark: Mark)
-        ensures { (a : Self) → marks a mark → extends a self.old → adds a [] self.new };
+        ensures put { (a : Self) → marks a mark → extends a self.old → adds a [] self.new }
+        ensures moves { (a : Self) → marks a mark → extends a self.old →
+            Moves reads.able a 0 [] self.new };
 }

@@ -8,5 +8,6 @@ invariant-loop-byte l =
     record {
       written : l.self.out.items ≡ l.initial.self.out.items ++ take l.byte-index l.bytes;
       capacity : vec_capacity l.self.out ≡ vec_capacity l.initial.self.out;
+      hints : l.self.hints ≡ l.initial.self.hints;
       poisoned : l.self.poisoned ≡ l.initial.self.poisoned;
     }

@@ -12,9 +12,9 @@ returns-then-take-clause-step g c =
 pub returns-else-take-clause-step : goal.returns-else-take-clause-step
 returns-else-take-clause-step g c =
     let L : Laws g.K.Sink.adds g.K.Sink.reads g.K.Sink.within g.K.Sink.extends = record { chains = g.K.Sink.chains; goes_on = g.K.Sink.goes_on; bounded = g.K.Sink.bounded; keeps = g.K.Sink.keeps; stays = g.K.Sink.stays; on = g.K.Sink.extends_on; longer = g.K.Sink.longer; longer_within = g.K.Sink.longer_within } in
-    λ start kind before ps p w q. not_taken g.K.Sink.adds g.K.Sink.reads g.K.Sink.within g.K.Sink.extends g.K.Sink.marks L start before c.args.self.now c.restore.new.self c.take.new.self kind ps p c.args.part (subst (λ x. Awaits g.K.Sink.adds g.K.Sink.reads g.K.Sink.within g.K.Sink.extends g.K.Sink.marks start kind before x ps) (sym (c.take.ensures.same c.if-take.false)) w) q c.restore.ensures
+    λ start kind before ps p w q. not_taken g.K.Sink.adds g.K.Sink.reads g.K.Sink.within g.K.Sink.extends g.K.Sink.marks L start before c.args.self.now c.restore.new.self c.take.new.self kind ps p c.args.part (subst (λ x. Awaits g.K.Sink.adds g.K.Sink.reads g.K.Sink.within g.K.Sink.extends g.K.Sink.marks start kind before x ps) (sym (c.take.ensures.same c.if-take.false)) w) q c.restore.ensures.put
 
 pub returns-in-Err-clause-step : goal.returns-in-Err-clause-step
 returns-in-Err-clause-step g c =
     let L : Laws g.K.Sink.adds g.K.Sink.reads g.K.Sink.within g.K.Sink.extends = record { chains = g.K.Sink.chains; goes_on = g.K.Sink.goes_on; bounded = g.K.Sink.bounded; keeps = g.K.Sink.keeps; stays = g.K.Sink.stays; on = g.K.Sink.extends_on; longer = g.K.Sink.longer; longer_within = g.K.Sink.longer_within } in
-    λ start kind before ps p w q. not_taken g.K.Sink.adds g.K.Sink.reads g.K.Sink.within g.K.Sink.extends g.K.Sink.marks L start before c.args.self.now c.restore-in-Err.new.self c.args.compound.now kind ps p c.args.part w q c.restore-in-Err.ensures
+    λ start kind before ps p w q. not_taken g.K.Sink.adds g.K.Sink.reads g.K.Sink.within g.K.Sink.extends g.K.Sink.marks L start before c.args.self.now c.restore-in-Err.new.self c.args.compound.now kind ps p c.args.part w q c.restore-in-Err.ensures.put
