@@ -36,8 +36,8 @@ pub fn frame_to_vec<T: Serialize>(
     ensures too_long { IfErr result (λ e. e ≡ TooLong →
         ExceedsFrame limit (T.tree performative.now) (length payload.now)) }
 {
-    let (len, hints) = measure(Hints::with_memory(Vec::new(alloc)), performative);
-    if let Some(len) = len {
+    let mut hints = Hints::with_memory(Vec::new(alloc));
+    if let Some(len) = measure(&mut hints, performative) {
         if let Ok(size) = size_of_frame(len, payload.len(), limit) {
             let header = FrameHeader {
                 size,
@@ -73,8 +73,8 @@ fn write<T: Serialize>(
     if frame.extend_from_slice(&header.to_bytes()).is_err() {
         return None;
     }
-    let (is_written, _hints, mut frame) = append_value(hints, frame, performative);
-    if !is_written {
+    let mut hints = hints;
+    if !append_value(&mut hints, &mut frame, performative) {
         return None;
     }
     if frame.extend_from_slice(payload).is_err() {

@@ -12,17 +12,27 @@ use amqp_ser::Whole;
 use amqp_size::width::{MAX_COUNT, MAX_LEN};
 
 /// Appends bytes within the capacity of a buffer, with hints.
-#[derive(Drop)]
-pub struct Appender {
+pub struct Appender<'a> {
     /// The hints.
-    pub hints: Hints,
+    pub hints: &'a mut Hints,
     /// The buffer.
     pub out: Vec<u8>,
     /// Whether bytes are missing, since the capacity or a hint did not fit.
     pub poisoned: bool,
 }
 
-impl Appender {
+impl Drop for Appender<'_> {
+    #[inline(always)]
+    fn drop(self) {
+        let Appender {
+            hints: _,
+            out: _,
+            poisoned: _,
+        } = self;
+    }
+}
+
+impl<'a> Appender<'a> {
     ghost use Rattle.std.specs.Prelude.{◌+◌};
     ghost use Rattle.std.specs.Vec.{vec_capacity};
     ghost use Rattle.amqp_wire.specs.Forms.{Appends, header};
@@ -30,7 +40,7 @@ impl Appender {
 
     /// Creates an appender.
     #[inline(always)]
-    pub fn new(hints: Hints, out: Vec<u8>) -> Appender
+    pub fn new(hints: &'a mut Hints, out: Vec<u8>) -> Appender<'a>
         ensures out { result.out ≡ out }
         ensures poisoned { result.poisoned ≡ false }
     {
@@ -39,6 +49,20 @@ impl Appender {
             out,
             poisoned: false,
         }
+    }
+
+    /// Returns the buffer, and whether bytes are missing.
+    #[inline(always)]
+    pub fn into_parts(self) -> (Vec<u8>, bool)
+        ensures out { result.0 ≡ self.entry.out }
+        ensures poisoned { result.1 ≡ self.entry.poisoned }
+    {
+        let Appender {
+            hints: _,
+            out,
+            poisoned,
+        } = self;
+        (out, poisoned)
     }
 
     /// Appends a few bytes.
@@ -96,7 +120,7 @@ impl Appender {
     }
 }
 
-impl Sink for Appender {
+impl Sink for Appender<'_> {
     ghost use Rattle.amqp_wire.specs.Forms.{Appends, Inside, Longer, OutMarks, appends_chain};
     ghost use Rattle.amqp_wire.specs.Forms.{goes_inside, appends_bounded, longer_keeps};
     ghost use Rattle.amqp_wire.specs.Forms.{longer_self, longer_on, longer_adds, longer_inside};

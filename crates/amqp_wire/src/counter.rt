@@ -9,15 +9,21 @@ use amqp_ser::Whole;
 use amqp_size::width::{MAX_COUNT, MAX_LEN};
 
 /// Counts bytes, and notes a hint for each compound.
-#[derive(Drop)]
-pub struct Counter {
+pub struct Counter<'a> {
     /// The number of bytes.
     pub len: usize,
     /// The hints.
-    pub hints: Hints,
+    pub hints: &'a mut Hints,
 }
 
-impl Counter {
+impl Drop for Counter<'_> {
+    #[inline(always)]
+    fn drop(self) {
+        let Counter { len: _, hints: _ } = self;
+    }
+}
+
+impl Counter<'_> {
     /// Counts `n` bytes, if a number can count all.
     #[inline(always)]
     fn count(&mut self, n: usize) -> bool
@@ -35,7 +41,7 @@ impl Counter {
     }
 }
 
-impl Sink for Counter {
+impl Sink for Counter<'_> {
     ghost use Rattle.amqp_wire.specs.Forms.{Counts, Counted, CountMarks, Any, counts_chain};
     ghost use Rattle.amqp_wire.specs.Forms.{counts_inside, counts_bounded, any, any_on, any_adds};
     ghost use Rattle.amqp_wire.specs.Forms.{any_within, any_keeps};

@@ -2,7 +2,7 @@
 
 ghost use Rattle.amqp_ser.specs.SizeAndBytes.{AreBytesOf};
 ghost use Rattle.amqp_wire.specs.ResultBytes.{result_bytes};
-ghost use Rattle.std.specs.Prelude.{◌≡◌, [], Err, true, IfSome};
+ghost use Rattle.std.specs.Prelude.{◌≡◌, [], Err, true, IfSome, IfOk};
 ghost use Rattle.amqp_ser.specs.Extends.{Extends};
 ghost use Rattle.amqp_wire.specs.Encoded.{IsWritten, IsInRange};
 ghost use Rattle.amqp_wire.specs.Appended.{AppendsBytesOf};
@@ -10,7 +10,7 @@ ghost use Rattle.amqp_wire.specs.Appended.{AppendsBytesOf};
 use crate::appender::Appender;
 use crate::counter::Counter;
 use crate::hints::Hints;
-use crate::pass::Pass;
+use crate::pass::{GaveUp, Pass};
 use amqp_data::Error;
 use amqp_ser::{Hint, Serialize};
 use amqp_size::serialized_size;
@@ -39,16 +39,15 @@ use std::mem;
 pub fn to_vec<T: Serialize>(alloc: Global, value: &T) -> Result<Vec<u8>, Error>
     ensures { AreBytesOf (T.tree value.now) (result_bytes result) }
 {
-    let (len, hints) = measure(Hints::with_memory(Vec::new(alloc)), value);
-    let Some(len) = len else {
+    let mut hints = Hints::with_memory(Vec::new(alloc));
+    let Some(len) = measure(&mut hints, value) else {
         return Err(error_of(value));
     };
-    let out = Vec::with_capacity(alloc, len)?;
-    let (is_written, _hints, bytes) = append_value(hints, out, value);
-    if !is_written {
+    let mut out = Vec::with_capacity(alloc, len)?;
+    if !append_value(&mut hints, &mut out, value) {
         return Err(error_of(value));
     }
-    Ok(bytes)
+    Ok(out)
 }
 
 /// Returns the error of a value on which a pass gave up: that of `serialized_size`, or
@@ -71,47 +70,44 @@ pub fn error_of<T: Serialize>(value: &T) -> Error
 ///
 /// # Memory
 /// 8 bytes for each compound after the first, in `hints`.
-#[tactic(auto, using(crate::proofs::Rooted::root_ranged))]
 #[inline]
-pub fn measure<T: Serialize>(hints: Hints, value: &T) -> (Option<usize>, Hints)
-    ensures { IfSome result.0 (λ _. IsInRange (T.tree value.now)) }
+pub fn measure<T: Serialize>(hints: &mut Hints, value: &T) -> Option<usize>
+    ensures { IfSome result (λ _. IsInRange (T.tree value.now)) }
+{
+    let (answer, len) = counted(&mut *hints, value);
+    match answer {
+        Ok(()) => if hints.is_refused() { None } else { Some(len) },
+        Err(_) => None,
+    }
+}
+
+#[tactic(auto, using(crate::proofs::Rooted::root_ranged))]
+#[inline(always)]
+fn counted<T: Serialize>(hints: &mut Hints, value: &T) -> (Result<(), GaveUp>, usize)
+    ensures { IfOk result.0 (λ _. IsInRange (T.tree value.now)) }
 {
     let mut pass = Pass::new(Counter { len: 0, hints });
     let answer = value.serialize(&mut pass);
-    let Counter { len, hints } = pass.into_sink();
-    match answer {
-        Ok(()) => {
-            if hints.is_refused() {
-                return (None, hints);
-            }
-            (Some(len), hints)
-        }
-        Err(_) => (None, hints),
-    }
+    let len = pass.into_sink().len;
+    (answer, len)
 }
 
 /// Appends the encoding within the capacity, by the next hints, and returns whether that succeeded.
 #[tactic(auto, using(crate::proofs::Rooted::root_written, crate::proofs::Rooted::root_longer))]
 #[inline]
-pub fn append_value<T: Serialize>(hints: Hints, out: Vec<u8>, value: &T) -> (bool, Hints, Vec<u8>)
-    ensures grown { Extends out.items result.2.items }
-    ensures written { result.0 ≡ true → IsWritten (T.tree value.now) out.items result.2.items }
+pub fn append_value<T: Serialize>(hints: &mut Hints, out: &mut Vec<u8>, value: &T) -> bool
+    ensures grown { Extends out.old.items out.new.items }
+    ensures written { result ≡ true → IsWritten (T.tree value.now) out.old.items out.new.items }
 {
-    let mut pass = Pass::new(Appender::new(hints, out));
+    let alloc = *out.allocator();
+    let buffer = mem::replace(out, Vec::new(alloc));
+    let mut pass = Pass::new(Appender::new(hints, buffer));
     let answer = value.serialize(&mut pass);
-    let Appender {
-        hints,
-        out,
-        poisoned,
-    } = pass.into_sink();
+    let (made, poisoned) = pass.into_sink().into_parts();
+    *out = made;
     match answer {
-        Ok(()) => {
-            if poisoned {
-                return (false, hints, out);
-            }
-            (true, hints, out)
-        }
-        Err(_) => (false, hints, out),
+        Ok(()) => !poisoned,
+        Err(_) => false,
     }
 }
 
@@ -142,8 +138,8 @@ pub fn append<T: Serialize>(
     ensures { AppendsBytesOf (T.tree value.now) out.old.items result out.new.items }
 {
     let memory = mem::replace(table, Vec::new(alloc));
-    let (len, hints) = measure(Hints::with_memory(memory), value);
-    let Some(len) = len else {
+    let mut hints = Hints::with_memory(memory);
+    let Some(len) = measure(&mut hints, value) else {
         *table = hints.into_memory();
         return Err(error_of(value));
     };
@@ -152,10 +148,8 @@ pub fn append<T: Serialize>(
         return Err(Error::OutOfMemory);
     }
     let before = out.len();
-    let buffer = mem::replace(out, Vec::new(alloc));
-    let (is_written, hints, bytes) = append_value(hints, buffer, value);
+    let is_written = append_value(&mut hints, out, value);
     *table = hints.into_memory();
-    *out = bytes;
     if !is_written {
         out.truncate(before);
         return Err(error_of(value));

@@ -9,6 +9,7 @@ ghost use Rattle.amqp_ser.specs.Ranged.{IsRanged};
 ghost use Rattle.amqp_ser.specs.Writable.{within_limits, uniform_arrays, inside};
 
 use amqp_ser::{Hint, Whole};
+use std::mem;
 
 /// The lengths and counts of compounds, in the order in which they are opened.
 ///
@@ -49,6 +50,13 @@ impl Hints {
             taken: 0,
             refused: false,
         }
+    }
+
+    /// Takes the list out, and leaves an empty one.
+    #[inline(always)]
+    pub(crate) fn take(&mut self) -> Hints {
+        let alloc = *self.hints.allocator();
+        mem::replace(self, Hints::with_memory(Vec::new(alloc)))
     }
 
     /// Returns the memory.

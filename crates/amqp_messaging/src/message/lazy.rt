@@ -144,17 +144,18 @@ impl<'a> LazyMessage<'a> {
             ⟦<DeliveryAnnotations as Serialize>⟧.tree ⟦<MessageAnnotations as Serialize>⟧.tree
             self.now.header self.now.delivery_annotations self.now.message_annotations f)) }
     {
-        let Some(buffer) = self.buffer(alloc) else {
+        let Some(mut front) = self.buffer(alloc) else {
             return Err(self.error());
         };
-        let Some(front) = put_front(
-            buffer,
+        let is_written = put_front(
+            &mut front,
             &self.header,
             &self.delivery_annotations,
             &self.message_annotations,
-        ) else {
+        );
+        if !is_written {
             return Err(self.error());
-        };
+        }
         let out = put_bytes(front.out, self.bare)?;
         Ok(put_bytes(out, self.footer)?)
     }
@@ -166,12 +167,16 @@ impl<'a> LazyMessage<'a> {
         let compounds = compounds_of(&self.header)
             + compounds_of(&self.delivery_annotations)
             + compounds_of(&self.message_annotations);
-        let front = measure_front(
-            Measured::new(alloc, compounds)?,
+        let mut front = Measured::new(alloc, compounds)?;
+        let is_measured = measure_front(
+            &mut front,
             &self.header,
             &self.delivery_annotations,
             &self.message_annotations,
-        )?;
+        );
+        if !is_measured {
+            return None;
+        }
         front.buffer(alloc, self.bare.len().checked_add(self.footer.len())?)
     }
 

@@ -161,28 +161,23 @@ impl Message {
             ⟦<Body as Serialize>⟧.tree self.now.properties self.now.application_properties self.now.body f
             ⊎ RefusesSection ⟦<Footer as Serialize>⟧.tree self.now.footer f)) }
     {
-        let Some(buffer) = self.buffer(alloc) else {
+        let Some(mut all) = self.buffer(alloc) else {
             return Err(self.error());
         };
-        let Some(front) = put_front(
-            buffer,
+        let is_written = put_front(
+            &mut all,
             &self.header,
             &self.delivery_annotations,
             &self.message_annotations,
-        ) else {
-            return Err(self.error());
-        };
-        let Some(bare) = put_bare(
-            front,
+        ) && put_bare(
+            &mut all,
             &self.properties,
             &self.application_properties,
             &self.body,
-        ) else {
+        ) && put_section(&mut all, &self.footer);
+        if !is_written {
             return Err(self.error());
-        };
-        let Some(all) = put_section(bare, &self.footer) else {
-            return Err(self.error());
-        };
+        }
         Ok(all.out)
     }
 
@@ -196,19 +191,23 @@ impl Message {
             + compounds_of(&self.properties)
             + compounds_of(&self.application_properties)
             + compounds_of(&self.footer);
-        let front = measure_front(
-            Measured::new(alloc, compounds)?,
+        let mut all = Measured::new(alloc, compounds)?;
+        let is_measured = measure_front(
+            &mut all,
             &self.header,
             &self.delivery_annotations,
             &self.message_annotations,
-        )?;
-        let bare = measure_bare(
-            front,
+        ) && measure_bare(
+            &mut all,
             &self.properties,
             &self.application_properties,
             &self.body,
-        )?;
-        measure_section(bare, &self.footer)?.buffer(alloc, 0)
+        ) && measure_section(&mut all, &self.footer);
+        if is_measured {
+            all.buffer(alloc, 0)
+        } else {
+            None
+        }
     }
 
     // Returns why the message is not written: the first error of a section, or `OutOfMemory`.

@@ -54,46 +54,49 @@ pub(crate) fn compounds_of<T>(section: &Option<T>) -> usize
 }
 
 /// Measures one more value.
-fn measure_tree<T: Serialize>(before: Measured, section: &T) -> Option<Measured> {
-    let Measured { hints, len } = before;
-    let (more, hints) = measure(hints, section);
-    let len = len.checked_add(more?)?;
-    Some(Measured { hints, len })
+fn measure_tree<T: Serialize>(all: &mut Measured, section: &T) -> bool {
+    let Some(more) = measure(&mut all.hints, section) else {
+        return false;
+    };
+    match all.len.checked_add(more) {
+        Some(len) => {
+            all.len = len;
+            true
+        }
+        None => false,
+    }
 }
 
 /// Measures one more section, if there is one.
-pub(crate) fn measure_section<T: Serialize>(
-    before: Measured,
-    section: &Option<T>,
-) -> Option<Measured> {
+pub(crate) fn measure_section<T: Serialize>(all: &mut Measured, section: &Option<T>) -> bool {
     match section {
-        Some(section) => measure_tree(before, section),
-        None => Some(before),
+        Some(section) => measure_tree(all, section),
+        None => true,
     }
 }
 
 /// Measures the sections before a bare message.
 pub(crate) fn measure_front(
-    before: Measured,
+    all: &mut Measured,
     header: &Option<Header>,
     delivery: &Option<DeliveryAnnotations>,
     message: &Option<MessageAnnotations>,
-) -> Option<Measured> {
-    let one = measure_section(before, header)?;
-    let two = measure_section(one, delivery)?;
-    measure_section(two, message)
+) -> bool {
+    measure_section(all, header)
+        && measure_section(all, delivery)
+        && measure_section(all, message)
 }
 
 /// Measures a bare message.
 pub(crate) fn measure_bare(
-    before: Measured,
+    all: &mut Measured,
     properties: &Option<Properties>,
     application: &Option<ApplicationProperties>,
     body: &Body,
-) -> Option<Measured> {
-    let one = measure_section(before, properties)?;
-    let two = measure_section(one, application)?;
-    measure_tree(two, body)
+) -> bool {
+    measure_section(all, properties)
+        && measure_section(all, application)
+        && measure_tree(all, body)
 }
 
 /// Sections that are written.
@@ -104,59 +107,36 @@ pub(crate) struct Written {
 }
 
 /// Appends one more value.
-#[tactic(auto, using(crate::proofs::MessageLemmas::put_tree))]
-fn put_tree<T: Serialize>(before: Written, section: &T) -> Option<Written>
-    ensures { IfSome result (λ r. PutsTree (T.tree section.now) before.out.items r.out.items) }
-{
-    let Written { hints, out } = before;
-    let (is_written, hints, out) = append_value(hints, out, section);
-    if is_written {
-        Some(Written { hints, out })
-    } else {
-        None
-    }
+fn put_tree<T: Serialize>(all: &mut Written, section: &T) -> bool {
+    append_value(&mut all.hints, &mut all.out, section)
 }
 
 /// Appends one more section, if there is one.
-pub(crate) fn put_section<T: Serialize>(before: Written, section: &Option<T>) -> Option<Written>
-    ensures { IfSome result (λ r. PutsSection T.tree before.out.items r.out.items section.now) }
-{
+pub(crate) fn put_section<T: Serialize>(all: &mut Written, section: &Option<T>) -> bool {
     match section {
-        Some(section) => put_tree(before, section),
-        None => Some(before),
+        Some(section) => put_tree(all, section),
+        None => true,
     }
 }
 
 /// Appends the sections before a bare message.
 pub(crate) fn put_front(
-    before: Written,
+    all: &mut Written,
     header: &Option<Header>,
     delivery: &Option<DeliveryAnnotations>,
     message: &Option<MessageAnnotations>,
-) -> Option<Written>
-    ensures { IfSome result (λ r. PutsFront ⟦<Header as Serialize>⟧.tree
-        ⟦<DeliveryAnnotations as Serialize>⟧.tree ⟦<MessageAnnotations as Serialize>⟧.tree before.out.items
-        r.out.items header.now delivery.now message.now) }
-{
-    let one = put_section(before, header)?;
-    let two = put_section(one, delivery)?;
-    put_section(two, message)
+) -> bool {
+    put_section(all, header) && put_section(all, delivery) && put_section(all, message)
 }
 
 /// Appends a bare message.
 pub(crate) fn put_bare(
-    before: Written,
+    all: &mut Written,
     properties: &Option<Properties>,
     application: &Option<ApplicationProperties>,
     body: &Body,
-) -> Option<Written>
-    ensures { IfSome result (λ r. PutsBare ⟦<Properties as Serialize>⟧.tree
-        ⟦<ApplicationProperties as Serialize>⟧.tree ⟦<Body as Serialize>⟧.tree before.out.items r.out.items
-        properties.now application.now body.now) }
-{
-    let one = put_section(before, properties)?;
-    let two = put_section(one, application)?;
-    put_tree(two, body)
+) -> bool {
+    put_section(all, properties) && put_section(all, application) && put_tree(all, body)
 }
 
 /// Appends bytes.
