@@ -1,8 +1,6 @@
 -- The hints of the parts of a compound.
 use Rattle.std.proofs.Common.{◌≡◌, ℕ, ◌+◌, ◌*◌, ◌≤◌, List, [], ◌∷◌, ◌++◌, Bool, true, false, ◌&&◌, length, refl, ap, sym, ◌∙◌, arith, append_assoc, length-append}
 use Rattle.std.proofs.lemmas.Bool.{and_parts}
-use Rattle.amqp_frame.specs.EncodedValue.{IsEncodedValue, primitive}
-use Rattle.amqp_frame.specs.EncodedValue as encoded
 use Rattle.amqp_ser.specs.Tree.{Tree, Trees, list, array, no_trees, more, count}
 use Rattle.amqp_ser.specs.Limits.{fits, is_count}
 use Rattle.amqp_ser.specs.Encoding.{encoding, encoding_each, payload_each, array_constructor}
@@ -11,8 +9,8 @@ use Rattle.amqp_ser.specs.Ranged.{IsRanged, AreRanged}
 use Rattle.amqp_ser.specs.Writable.{within_limits, within_limits_each, inside, inside_each}
 use Rattle.amqp_ser.specs.declared.hint.Hint.{Hint}
 use Rattle.amqp_ser.proofs.Bools.{is_le}
-use Rattle.amqp_ser.proofs.EncodedValue.{inside_is_encoded}
 use Rattle.amqp_ser.proofs.Joins.{join}
+use Rattle.amqp_ser.proofs.PartBytes.{count_fits}
 use Rattle.amqp_wire.specs.Lengths.{FitsHint}
 use Rattle.amqp_wire.specs.declared.sink.HeaderKind.TheVariants as headers
 
@@ -20,21 +18,6 @@ use Rattle.amqp_wire.specs.declared.sink.HeaderKind.TheVariants as headers
 pub hints_each-join : (ts us : Trees) → hints_each (join ts us) ≡ hints_each ts ++ hints_each us
 hints_each-join no_trees us = refl
 hints_each-join (more t ts) us = ap (λ h. hints_of t ++ h) (hints_each-join ts us) ∙ sym (append_assoc (hints_of t) (hints_each ts) (hints_each us))
-
-has_byte : (bs : List ℕ) → IsEncodedValue bs → 1 ≤ length bs
-has_byte bs (primitive code payload p l) = omega arith
-has_byte bs (encoded.described d v h k) = omega arith
-
--- Each part of a list has a byte.
-pub count_fits : (ts : Trees) → AreRanged ts → within_limits_each ts ≡ true → inside_each ts ≡ true → count ts ≤ length (encoding_each ts)
-count_fits no_trees r w i = omega arith
-count_fits (more t ts) r w i =
-    let x = and_parts (within_limits t) (within_limits_each ts) w in
-    let y = and_parts (inside t) (inside_each ts) i in
-    let b = has_byte (encoding t) (inside_is_encoded t r.0 x.0 y.0) in
-    let c = count_fits ts r.1 x.1 y.1 in
-    let n = length-append (encoding t) (encoding_each ts) in
-    omega arith
 
 -- The length and the count of a list and of an array that can be written fit in a hint.
 pub list_fits : (ts : Trees) → AreRanged ts → within_limits (list ts) ≡ true → inside_each ts ≡ true → FitsHint headers.List (length (encoding_each ts)) (count ts)

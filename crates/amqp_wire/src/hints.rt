@@ -9,7 +9,6 @@ ghost use Rattle.amqp_ser.specs.Ranged.{IsRanged};
 ghost use Rattle.amqp_ser.specs.Writable.{within_limits, uniform_arrays, inside};
 
 use amqp_ser::{Hint, Whole};
-use std::mem;
 
 /// The lengths and counts of compounds, in the order in which they are opened.
 ///
@@ -50,13 +49,6 @@ impl Hints {
             taken: 0,
             refused: false,
         }
-    }
-
-    /// Takes the list out, and leaves an empty one.
-    #[inline(always)]
-    pub(crate) fn take(&mut self) -> Hints {
-        let alloc = *self.hints.allocator();
-        mem::replace(self, Hints::with_memory(Vec::new(alloc)))
     }
 
     /// Returns the memory.
@@ -124,7 +116,7 @@ impl Hints {
         ensures { result ≡ length (noted self.now) }
     {
         if self.has_first {
-            self.hints.len().saturating_add(1)
+            self.hints.len() + 1
         } else {
             self.hints.len()
         }
