@@ -107,12 +107,18 @@ pub(crate) struct Written {
 }
 
 /// Appends one more value.
-fn put_tree<T: Serialize>(all: &mut Written, section: &T) -> bool {
+#[tactic(auto, using(crate::proofs::MessageLemmas::put_tree))]
+fn put_tree<T: Serialize>(all: &mut Written, section: &T) -> bool
+    ensures { result ≡ true → PutsTree (T.tree section.now) all.old.out.items all.new.out.items }
+{
     append_value(&mut all.hints, &mut all.out, section)
 }
 
 /// Appends one more section, if there is one.
-pub(crate) fn put_section<T: Serialize>(all: &mut Written, section: &Option<T>) -> bool {
+pub(crate) fn put_section<T: Serialize>(all: &mut Written, section: &Option<T>) -> bool
+    ensures { result ≡ true →
+        PutsSection T.tree all.old.out.items all.new.out.items section.now }
+{
     match section {
         Some(section) => put_tree(all, section),
         None => true,
@@ -125,7 +131,11 @@ pub(crate) fn put_front(
     header: &Option<Header>,
     delivery: &Option<DeliveryAnnotations>,
     message: &Option<MessageAnnotations>,
-) -> bool {
+) -> bool
+    ensures { result ≡ true → PutsFront ⟦<Header as Serialize>⟧.tree
+        ⟦<DeliveryAnnotations as Serialize>⟧.tree ⟦<MessageAnnotations as Serialize>⟧.tree
+        all.old.out.items all.new.out.items header.now delivery.now message.now }
+{
     put_section(all, header) && put_section(all, delivery) && put_section(all, message)
 }
 
@@ -135,7 +145,11 @@ pub(crate) fn put_bare(
     properties: &Option<Properties>,
     application: &Option<ApplicationProperties>,
     body: &Body,
-) -> bool {
+) -> bool
+    ensures { result ≡ true → PutsBare ⟦<Properties as Serialize>⟧.tree
+        ⟦<ApplicationProperties as Serialize>⟧.tree ⟦<Body as Serialize>⟧.tree all.old.out.items
+        all.new.out.items properties.now application.now body.now }
+{
     put_section(all, properties) && put_section(all, application) && put_tree(all, body)
 }
 
