@@ -24,3 +24,4 @@ pub mod Equal
 pub mod EscapedBytes
 pub mod Measured
 pub mod Wrote
+pub mod Recorded

@@ -4,7 +4,9 @@
 //! finds errors: for a value that cannot be written, a length is `usize::MAX` and an append returns
 //! `false`. A serializer then finds the error.
 
-ghost use Rattle.std.specs.Prelude.{◌≡◌, true};
+ghost use Rattle.std.specs.Prelude.{◌≡◌, ◌++◌, ◌+◌, true, length, List, reverse};
+ghost use Rattle.amqp_ser.specs.Hints.{hints_of};
+ghost use Rattle.amqp_ser.specs.declared.hint.Hint.{Hint};
 ghost use Rattle.amqp_value.specs.TreeOf.{tree_of};
 ghost use Rattle.amqp_value.specs.Wrote.{Grows, Wrote};
 
@@ -72,6 +74,8 @@ impl Whole for Value {
 #[inline(never)]
 fn write_apart(value: &Value, hints: &[Hint], taken: &mut usize, out: &mut Vec<u8>) -> bool
     ensures wrote { result ≡ true → Wrote (tree_of value.now) out.old.items out.new.items }
+    ensures taken { result ≡ true →
+        taken.new ≡ taken.old + length (hints_of (tree_of value.now)) }
     ensures kept { Grows out.old out.new }
 {
     write(value, hints, taken, out)
@@ -79,7 +83,10 @@ fn write_apart(value: &Value, hints: &[Hint], taken: &mut usize, out: &mut Vec<u
 
 /// Reverses the hints from index `start` on.
 #[inline(always)]
-fn reverse_from(hints: &mut Vec<Hint>, start: usize) {
+fn reverse_from(hints: &mut Vec<Hint>, start: usize)
+    ensures { (hs gs : List Hint) → hints.old.items ≡ hs ++ gs → start ≡ length hs →
+        hints.new.items ≡ hs ++ reverse gs }
+{
     if start <= hints.len() {
         let (_, added) = hints.as_mut_slice().split_at_mut(start);
         added.reverse();

@@ -2,12 +2,17 @@
 //!
 //! The parts of a compound are measured from the last to the first, as `Bodies` describes.
 
+ghost use Rattle.std.specs.Prelude.{◌≡◌, ◌≤◌, true, length};
 ghost use Rattle.amqp_ser.specs.Tree as tree;
+ghost use Rattle.amqp_ser.specs.Tree.{list, array, map};
+ghost use Rattle.amqp_ser.specs.Hints.{hints_of, hints_each, hints_pairs};
+ghost use Rattle.amqp_ser.specs.Limits.{fits};
 ghost use Rattle.amqp_ser.specs.Carried.{descriptor_content};
 ghost use Rattle.amqp_value.specs.TreeOf.{tree_of, all_of, pairs_trees};
 ghost use Rattle.amqp_value.specs.Measured.{Measured, MeasuredPayload, MeasuredEach};
 ghost use Rattle.amqp_value.specs.Measured.{MeasuredPayloads, MeasuredContent, MeasuredPairs};
 ghost use Rattle.amqp_value.specs.Measured.{IsLength};
+ghost use Rattle.amqp_value.specs.Recorded.{Records, Keeps};
 
 use crate::Value;
 use crate::whole::bodies::Bodies;
@@ -24,7 +29,9 @@ use amqp_size::width::MAX_COUNT;
 #[inline(always)]
 #[cycle(measure)]
 pub(crate) fn measure<B: Bodies>(value: &Value, bodies: &mut B) -> usize
-    ensures { IsLength result → Measured (tree_of value.now) result }
+    ensures measured { IsLength result → Measured (tree_of value.now) result }
+    ensures noted { IsLength result → Records B.holds bodies.old (hints_of (tree_of value.now)) bodies.new }
+    ensures kept { Keeps B.holds bodies.old bodies.new }
 {
     read_scalar(value);
     match value {
@@ -63,7 +70,10 @@ pub(crate) fn measure<B: Bodies>(value: &Value, bodies: &mut B) -> usize
 #[inline(never)]
 #[cycle(measure)]
 fn measure_list<B: Bodies>(items: &[Value], bodies: &mut B) -> usize
-    ensures { IsLength result → MeasuredEach (all_of items.now) result }
+    ensures measured { IsLength result → MeasuredEach (all_of items.now) result }
+    ensures noted { IsLength result → fits result ≡ true →
+        Records B.holds bodies.old (hints_of (list (all_of items.now))) bodies.new }
+    ensures kept { Keeps B.holds bodies.old bodies.new }
 {
     let len = measure_items(items, bodies);
     if !bodies.record(len, items.len()) {
@@ -76,7 +86,9 @@ fn measure_list<B: Bodies>(items: &[Value], bodies: &mut B) -> usize
 #[inline(always)]
 #[cycle(measure)]
 fn measure_items<B: Bodies>(items: &[Value], bodies: &mut B) -> usize
-    ensures { IsLength result → MeasuredEach (all_of items.now) result }
+    ensures measured { IsLength result → MeasuredEach (all_of items.now) result }
+    ensures noted { IsLength result → Records B.holds bodies.old (hints_each (all_of items.now)) bodies.new }
+    ensures kept { Keeps B.holds bodies.old bodies.new }
 {
     let mut len: usize = 0;
     let mut at = items.len();
@@ -94,7 +106,10 @@ fn measure_items<B: Bodies>(items: &[Value], bodies: &mut B) -> usize
 #[inline(never)]
 #[cycle(measure)]
 fn measure_map<B: Bodies>(pairs: &[(Value, Value)], bodies: &mut B) -> usize
-    ensures { IsLength result → MeasuredPairs (pairs_trees pairs.now) result }
+    ensures measured { IsLength result → MeasuredPairs (pairs_trees pairs.now) result }
+    ensures noted { IsLength result → fits result ≡ true →
+        Records B.holds bodies.old (hints_of (map (pairs_trees pairs.now))) bodies.new }
+    ensures kept { Keeps B.holds bodies.old bodies.new }
 {
     let len = measure_pairs(pairs, bodies);
     if !bodies.record(len, pairs.len().saturating_mul(2)) {
@@ -107,7 +122,9 @@ fn measure_map<B: Bodies>(pairs: &[(Value, Value)], bodies: &mut B) -> usize
 #[inline(always)]
 #[cycle(measure)]
 fn measure_pairs<B: Bodies>(pairs: &[(Value, Value)], bodies: &mut B) -> usize
-    ensures { IsLength result → MeasuredPairs (pairs_trees pairs.now) result }
+    ensures measured { IsLength result → MeasuredPairs (pairs_trees pairs.now) result }
+    ensures noted { IsLength result → Records B.holds bodies.old (hints_pairs (pairs_trees pairs.now)) bodies.new }
+    ensures kept { Keeps B.holds bodies.old bodies.new }
 {
     let mut len: usize = 0;
     let mut at = pairs.len();
@@ -132,9 +149,11 @@ fn measure_pairs<B: Bodies>(pairs: &[(Value, Value)], bodies: &mut B) -> usize
 #[inline(never)]
 #[cycle(measure)]
 fn measure_described<B: Bodies>(described: &Described<Value>, bodies: &mut B) -> usize
-    ensures { IsLength result →
+    ensures measured { IsLength result →
         Measured (tree.described (descriptor_content described.now.descriptor)
         (tree_of described.now.value)) result }
+    ensures noted { IsLength result → Records B.holds bodies.old (hints_of (tree_of described.now.value)) bodies.new }
+    ensures kept { Keeps B.holds bodies.old bodies.new }
 {
     let descriptor = descriptor_size(&described.descriptor);
     descriptor
@@ -146,7 +165,10 @@ fn measure_described<B: Bodies>(described: &Described<Value>, bodies: &mut B) ->
 #[inline(never)]
 #[cycle(measure)]
 fn measure_array<B: Bodies>(items: &[Value], bodies: &mut B) -> usize
-    ensures { IsLength result → MeasuredContent (all_of items.now) result }
+    ensures measured { IsLength result → MeasuredContent (all_of items.now) result }
+    ensures noted { IsLength result → fits result ≡ true → length items.now ≤ 4294967295 →
+        Records B.holds bodies.old (hints_of (array (all_of items.now))) bodies.new }
+    ensures kept { Keeps B.holds bodies.old bodies.new }
 {
     let len = measure_content(items, bodies);
     if !bodies.record(len, items.len()) {
@@ -159,7 +181,9 @@ fn measure_array<B: Bodies>(items: &[Value], bodies: &mut B) -> usize
 #[inline(always)]
 #[cycle(measure)]
 fn measure_content<B: Bodies>(items: &[Value], bodies: &mut B) -> usize
-    ensures { IsLength result → MeasuredContent (all_of items.now) result }
+    ensures measured { IsLength result → MeasuredContent (all_of items.now) result }
+    ensures noted { IsLength result → Records B.holds bodies.old (hints_each (all_of items.now)) bodies.new }
+    ensures kept { Keeps B.holds bodies.old bodies.new }
 {
     match items.first() {
         None => 0,
@@ -181,7 +205,9 @@ fn measure_content<B: Bodies>(items: &[Value], bodies: &mut B) -> usize
 #[inline(never)]
 #[cycle(measure)]
 fn measure_payloads<B: Bodies>(items: &[Value], bodies: &mut B) -> usize
-    ensures { IsLength result → MeasuredPayloads (all_of items.now) result }
+    ensures measured { IsLength result → MeasuredPayloads (all_of items.now) result }
+    ensures noted { IsLength result → Records B.holds bodies.old (hints_each (all_of items.now)) bodies.new }
+    ensures kept { Keeps B.holds bodies.old bodies.new }
 {
     let mut len: usize = 0;
     let mut at = items.len();
@@ -199,7 +225,9 @@ fn measure_payloads<B: Bodies>(items: &[Value], bodies: &mut B) -> usize
 #[inline(always)]
 #[cycle(measure)]
 fn measure_payload<B: Bodies>(value: &Value, bodies: &mut B) -> usize
-    ensures { IsLength result → MeasuredPayload (tree_of value.now) result }
+    ensures measured { IsLength result → MeasuredPayload (tree_of value.now) result }
+    ensures noted { IsLength result → Records B.holds bodies.old (hints_of (tree_of value.now)) bodies.new }
+    ensures kept { Keeps B.holds bodies.old bodies.new }
 {
     read_scalar(value);
     match value {

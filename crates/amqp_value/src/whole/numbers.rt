@@ -2,6 +2,7 @@
 
 ghost use Rattle.std.specs.Prelude.{◌≡◌, ◌+◌, ◌≤◌, ◌<◌, length, true};
 ghost use Rattle.std.specs.Vec.{vec_capacity};
+ghost use Rattle.amqp_ser.specs.Hints.{hints_of, hints_each};
 ghost use Rattle.amqp_value.specs.TreeOf.{tree_of, all_of};
 ghost use Rattle.amqp_value.specs.Wrote.{Grows, WrotePayload, WrotePayloads};
 
@@ -14,6 +15,7 @@ use crate::whole::constructors::constructor_of;
 pub(crate) fn write_numbers(items: &[Value], code: u8, width: usize, out: &mut Vec<u8>) -> bool
     ensures wrote { result ≡ true → 0 < code →
         WrotePayloads code (all_of items.now) out.old.items out.new.items }
+    ensures plain { result ≡ true → length (hints_each (all_of items.now)) ≡ 0 }
     ensures kept { Grows out.old out.new }
 {
     let Some(len) = items.len().checked_mul(width) else {
@@ -40,6 +42,7 @@ fn put_number(value: &Value, width: usize, out: &mut Vec<u8>) -> bool
     ensures put { result ≡ true → WrotePayload (tree_of value.now) out.old.items out.new.items }
     ensures width { result ≡ true → length out.new.items ≡ length out.old.items + width }
     ensures capacity { result ≡ true → vec_capacity out.new ≡ vec_capacity out.old }
+    ensures plain { result ≡ true → length (hints_of (tree_of value.now)) ≡ 0 }
     ensures kept { Grows out.old out.new }
 {
     match value {

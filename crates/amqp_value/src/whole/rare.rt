@@ -1,7 +1,8 @@
 //! Appends the scalars that are rarely in a value: kept apart so that the functions for the common
 //! kinds stay small enough to be inlined.
 
-ghost use Rattle.std.specs.Prelude.{◌≡◌, true};
+ghost use Rattle.std.specs.Prelude.{◌≡◌, true, length};
+ghost use Rattle.amqp_ser.specs.Hints.{hints_of};
 ghost use Rattle.amqp_value.specs.TreeOf.{tree_of};
 ghost use Rattle.amqp_value.specs.Wrote.{Grows, Wrote, WrotePayload};
 
@@ -13,6 +14,7 @@ use amqp_data::EncodingCodes;
 #[inline(never)]
 pub(crate) fn write_rare(value: &Value, out: &mut Vec<u8>) -> bool
     ensures wrote { result ≡ true → Wrote (tree_of value.now) out.old.items out.new.items }
+    ensures plain { result ≡ true → length (hints_of (tree_of value.now)) ≡ 0 }
     ensures kept { Grows out.old out.new }
 {
     match value {
@@ -36,6 +38,7 @@ pub(crate) fn write_rare(value: &Value, out: &mut Vec<u8>) -> bool
 #[inline(never)]
 pub(crate) fn write_rare_payload(value: &Value, out: &mut Vec<u8>) -> bool
     ensures wrote { result ≡ true → WrotePayload (tree_of value.now) out.old.items out.new.items }
+    ensures plain { result ≡ true → length (hints_of (tree_of value.now)) ≡ 0 }
     ensures kept { Grows out.old out.new }
 {
     match value {

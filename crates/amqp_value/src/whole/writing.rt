@@ -4,10 +4,11 @@
 //! one differs, an array has elements of two types or the capacity is too small, the result is
 //! `false`, and the bytes that were appended are not used.
 
-ghost use Rattle.std.specs.Prelude.{◌≡◌, ◌<◌, true, length, get_or};
+ghost use Rattle.std.specs.Prelude.{◌≡◌, ◌<◌, ◌+◌, true, length, get_or};
 ghost use Rattle.amqp_ser.specs.Tree.{list, array, map};
 ghost use Rattle.amqp_ser.specs.Tree as tree;
 ghost use Rattle.amqp_ser.specs.Carried.{descriptor_content};
+ghost use Rattle.amqp_ser.specs.Hints.{hints_of, hints_each, hints_pairs};
 ghost use Rattle.amqp_value.specs.declared.value.Value.{Value};
 ghost use Rattle.amqp_value.specs.TreeOf.{tree_of, all_of, pairs_trees};
 ghost use Rattle.amqp_value.specs.Wrote.{Grows, Wrote, WrotePayload, WroteEach, WrotePairs};
@@ -31,6 +32,7 @@ use amqp_ser::Hint;
 #[cycle(write)]
 pub(crate) fn write(value: &Value, hints: &[Hint], taken: &mut usize, out: &mut Vec<u8>) -> bool
     ensures wrote { result ≡ true → Wrote (tree_of value.now) out.old.items out.new.items }
+    ensures taken { result ≡ true → taken.new ≡ taken.old + length (hints_of (tree_of value.now)) }
     ensures kept { Grows out.old out.new }
 {
     match value {
@@ -57,6 +59,7 @@ pub(crate) fn write(value: &Value, hints: &[Hint], taken: &mut usize, out: &mut 
 #[cycle(write)]
 fn write_list(items: &[Value], hints: &[Hint], taken: &mut usize, out: &mut Vec<u8>) -> bool
     ensures wrote { result ≡ true → Wrote (list (all_of items.now)) out.old.items out.new.items }
+    ensures taken { result ≡ true → taken.new ≡ taken.old + length (hints_of (list (all_of items.now))) }
     ensures kept { Grows out.old out.new }
 {
     let len = next(hints, taken);
@@ -75,6 +78,7 @@ fn write_list(items: &[Value], hints: &[Hint], taken: &mut usize, out: &mut Vec<
 #[cycle(write)]
 fn write_items(items: &[Value], hints: &[Hint], taken: &mut usize, out: &mut Vec<u8>) -> bool
     ensures wrote { result ≡ true → WroteEach (all_of items.now) out.old.items out.new.items }
+    ensures taken { result ≡ true → taken.new ≡ taken.old + length (hints_each (all_of items.now)) }
     ensures kept { Grows out.old out.new }
 {
     for item in items {
@@ -91,6 +95,7 @@ fn write_items(items: &[Value], hints: &[Hint], taken: &mut usize, out: &mut Vec
 fn write_map(pairs: &[(Value, Value)], hints: &[Hint], taken: &mut usize, out: &mut Vec<u8>) -> bool
     ensures wrote { result ≡ true → Wrote
         (map (pairs_trees pairs.now)) out.old.items out.new.items }
+    ensures taken { result ≡ true → taken.new ≡ taken.old + length (hints_of (map (pairs_trees pairs.now))) }
     ensures kept { Grows out.old out.new }
 {
     let len = next(hints, taken);
@@ -114,6 +119,7 @@ fn write_pairs(
     out: &mut Vec<u8>,
 ) -> bool
     ensures wrote { result ≡ true → WrotePairs (pairs_trees pairs.now) out.old.items out.new.items }
+    ensures taken { result ≡ true → taken.new ≡ taken.old + length (hints_pairs (pairs_trees pairs.now)) }
     ensures kept { Grows out.old out.new }
 {
     let mut at = 0;
@@ -146,6 +152,8 @@ fn write_value(
     requires { at < length pairs.now }
     ensures wrote { (e : Value × Value) → e ≡ get_or pairs.now at e → result ≡ true →
         Wrote (tree_of e.1) out.old.items out.new.items }
+    ensures taken { (e : Value × Value) → e ≡ get_or pairs.now at e → result ≡ true →
+        taken.new ≡ taken.old + length (hints_of (tree_of e.1)) }
     ensures kept { Grows out.old out.new }
 {
     write(&pairs[at].1, hints, taken, out)
@@ -156,6 +164,7 @@ fn write_value(
 #[cycle(write)]
 fn write_array(items: &[Value], hints: &[Hint], taken: &mut usize, out: &mut Vec<u8>) -> bool
     ensures wrote { result ≡ true → Wrote (array (all_of items.now)) out.old.items out.new.items }
+    ensures taken { result ≡ true → taken.new ≡ taken.old + length (hints_of (array (all_of items.now))) }
     ensures kept { Grows out.old out.new }
 {
     let len = next(hints, taken);
@@ -174,6 +183,7 @@ fn write_array(items: &[Value], hints: &[Hint], taken: &mut usize, out: &mut Vec
 #[cycle(write)]
 fn write_content(items: &[Value], hints: &[Hint], taken: &mut usize, out: &mut Vec<u8>) -> bool
     ensures wrote { result ≡ true → WroteContent (all_of items.now) out.old.items out.new.items }
+    ensures taken { result ≡ true → taken.new ≡ taken.old + length (hints_each (all_of items.now)) }
     ensures kept { Grows out.old out.new }
 {
     match items.first() {
@@ -204,6 +214,8 @@ fn write_elements(
 ) -> bool
     ensures wrote { result ≡ true → 0 < code →
         WrotePayloads code (all_of items.now) out.old.items out.new.items }
+    ensures taken { result ≡ true → 0 < code →
+        taken.new ≡ taken.old + length (hints_each (all_of items.now)) }
     ensures kept { Grows out.old out.new }
 {
     match code {
@@ -228,6 +240,7 @@ fn write_payloads(
 ) -> bool
     ensures wrote { result ≡ true → 0 < code →
         WrotePayloads code (all_of items.now) out.old.items out.new.items }
+    ensures taken { result ≡ true → taken.new ≡ taken.old + length (hints_each (all_of items.now)) }
     ensures kept { Grows out.old out.new }
 {
     for item in items {
@@ -247,6 +260,7 @@ fn write_payloads(
 #[cycle(write)]
 fn write_payload(value: &Value, hints: &[Hint], taken: &mut usize, out: &mut Vec<u8>) -> bool
     ensures wrote { result ≡ true → WrotePayload (tree_of value.now) out.old.items out.new.items }
+    ensures taken { result ≡ true → taken.new ≡ taken.old + length (hints_of (tree_of value.now)) }
     ensures kept { Grows out.old out.new }
 {
     match value {
@@ -268,6 +282,7 @@ fn write_payload(value: &Value, hints: &[Hint], taken: &mut usize, out: &mut Vec
 fn write_wide_list(items: &[Value], hints: &[Hint], taken: &mut usize, out: &mut Vec<u8>) -> bool
     ensures wrote { result ≡ true → WrotePayload
         (list (all_of items.now)) out.old.items out.new.items }
+    ensures taken { result ≡ true → taken.new ≡ taken.old + length (hints_of (list (all_of items.now))) }
     ensures kept { Grows out.old out.new }
 {
     let len = next(hints, taken);
@@ -292,6 +307,7 @@ fn write_wide_map(
 ) -> bool
     ensures wrote { result ≡ true → WrotePayload
         (map (pairs_trees pairs.now)) out.old.items out.new.items }
+    ensures taken { result ≡ true → taken.new ≡ taken.old + length (hints_of (map (pairs_trees pairs.now))) }
     ensures kept { Grows out.old out.new }
 {
     let len = next(hints, taken);
@@ -311,6 +327,7 @@ fn write_wide_map(
 fn write_wide_array(items: &[Value], hints: &[Hint], taken: &mut usize, out: &mut Vec<u8>) -> bool
     ensures wrote { result ≡ true → WrotePayload
         (array (all_of items.now)) out.old.items out.new.items }
+    ensures taken { result ≡ true → taken.new ≡ taken.old + length (hints_of (array (all_of items.now))) }
     ensures kept { Grows out.old out.new }
 {
     let len = next(hints, taken);
@@ -336,6 +353,8 @@ fn write_described(
     ensures wrote { result ≡ true →
         Wrote (tree.described (descriptor_content described.now.descriptor) (tree_of described.now.value))
         out.old.items out.new.items }
+    ensures taken { result ≡ true →
+        taken.new ≡ taken.old + length (hints_of (tree_of described.now.value)) }
     ensures kept { Grows out.old out.new }
 {
     if !put_few(&[EncodingCodes::DescribedType as u8], out) {

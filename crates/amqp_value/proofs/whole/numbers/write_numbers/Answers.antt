@@ -4,6 +4,7 @@ use Rattle.std.proofs.lemmas.List.{drop_all}
 use Rattle.std.specs.Vec.{vec_capacity}
 use Rattle.amqp_ser.specs.Encoding.{constructor}
 use Rattle.amqp_value.specs.TreeOf.{tree_of}
+use Rattle.amqp_value.proofs.RecordedLemmas.{taken_step}
 use Rattle.amqp_value.proofs.WroteLemmas.{grows_more, none_payloads, payload_step, room_now, room_next}
 use Rattle.amqp_value.proofs.whole.numbers.write_numbers.Goals as goal
 
@@ -21,6 +22,9 @@ loop-item-preserved c =
       room = subst (λ k. length c.put_number.new.out.items + (length c.args.items.now - (c.loop-item.item-index + 1)) * c.args.width ≤ k) (sym (c.put_number.ensures.capacity put))
           (room_next (length c.args.items.now) c.loop-item.item-index c.args.width (length c.loop-item.out.items) (length c.put_number.new.out.items) (vec_capacity c.loop-item.out) c.loop-item-test.true c.loop-item.invariant.room (c.put_number.ensures.width put));
       kept = grows_more c.args.out.now c.loop-item.out c.put_number.new.out c.loop-item.invariant.kept c.put_number.ensures.kept;
+      plain =
+          let step = taken_step c.args.items.now c.loop-item.item-index c.item-item.result 0 0 _ c.loop-item-test.true c.item-item.is (sym c.loop-item.invariant.plain) (sym (c.put_number.ensures.plain put)) in
+          sym step;
     }
 
 pub returns-clause-wrote : goal.returns-clause-wrote

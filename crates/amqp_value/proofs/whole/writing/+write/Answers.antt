@@ -9,6 +9,7 @@ use Rattle.amqp_value.specs.declared.value.Value.{Value}
 use Rattle.amqp_value.proofs.TreeLemmas.{tree_of-Map}
 use Rattle.amqp_value.specs.Wrote.{Wrote, WrotePayload}
 use Rattle.amqp_value.proofs.MeasuredLemmas.{count-all_of}
+use Rattle.amqp_value.proofs.RecordedLemmas.{taken_step, taken_pair_step}
 use Rattle.amqp_value.proofs.WroteLemmas.{grows_more, same_item, cons_pair, of_list, of_list_payload, of_map, of_map_payload, of_array, of_array_payload, of_described, none_each, none_pairs, none_payloads, each_step, pair_step, payload_step, same_len, twice}
 use Rattle.amqp_value.proofs.whole.writing.+write.Goals as goal
 
@@ -67,7 +68,10 @@ write_items-loop-item-preserved t c =
     let i = c.loop-item.invariant in
     let ok = c.if-not-write.false in (
       each_step c.args.items.now c.loop-item.item-index c.item-item.result c.args.out.now.items c.loop-item.out.items c.write.new.out.items c.loop-item-test.true c.item-item.is i.0 (c.write.ensures.wrote ok),
-      grows_more c.args.out.now c.loop-item.out c.write.new.out i.1 c.write.ensures.kept,
+      (
+        grows_more c.args.out.now c.loop-item.out c.write.new.out i.1.0 c.write.ensures.kept,
+        taken_step c.args.items.now c.loop-item.item-index c.item-item.result c.loop-item.taken c.write.new.taken _ c.loop-item-test.true c.item-item.is i.1.1 (c.write.ensures.taken ok),
+      ),
     )
 
 pub write_pairs-loop-at-preserved : goal.write_pairs-loop-at-preserved
@@ -78,7 +82,10 @@ write_pairs-loop-at-preserved t c =
     let value = c.if-not-value.false in (
       pair_step c.args.pairs.now c.loop-at.at e c.args.out.now.items c.loop-at.out.items c.write_value-value.new.out.items c.loop-at-test.true c.index-pairs-at.is i.0
           (λ ps b rest. cons_pair (tree_of e.0) (tree_of e.1) ps c.loop-at.out.items c.write-key.new.out.items c.write_value-value.new.out.items b (c.write-key.ensures.wrote key) (c.write_value-value.ensures.wrote e c.index-pairs-at.is value) rest),
-      grows_more c.args.out.now c.write-key.new.out c.write_value-value.new.out (grows_more c.args.out.now c.loop-at.out c.write-key.new.out i.1 c.write-key.ensures.kept) c.write_value-value.ensures.kept,
+      (
+        grows_more c.args.out.now c.write-key.new.out c.write_value-value.new.out (grows_more c.args.out.now c.loop-at.out c.write-key.new.out i.1.0 c.write-key.ensures.kept) c.write_value-value.ensures.kept,
+        taken_pair_step c.args.pairs.now c.loop-at.at e c.loop-at.taken c.write-key.new.taken c.write_value-value.new.taken _ c.loop-at-test.true c.index-pairs-at.is i.1.1 (c.write-key.ensures.taken key) (c.write_value-value.ensures.taken e c.index-pairs-at.is value),
+      ),
     )
 
 pub write_payloads-loop-item-preserved : goal.write_payloads-loop-item-preserved
@@ -88,7 +95,10 @@ write_payloads-loop-item-preserved t c =
     let same : c.constructor_of.result ≡ c.args.code = grind (arith, nat_tests) in (
       λ some. payload_step c.args.code c.args.items.now c.loop-item.item-index c.item-item.result c.args.out.now.items c.loop-item.out.items c.write_payload.new.out.items c.loop-item-test.true c.item-item.is
           (i.0 some) (subst (λ k. 0 < k → constructor (tree_of c.item-item.result) ≡ Some k) same c.constructor_of.ensures.some some) (c.write_payload.ensures.wrote ok),
-      grows_more c.args.out.now c.loop-item.out c.write_payload.new.out i.1 c.write_payload.ensures.kept,
+      (
+        grows_more c.args.out.now c.loop-item.out c.write_payload.new.out i.1.0 c.write_payload.ensures.kept,
+        taken_step c.args.items.now c.loop-item.item-index c.item-item.result c.loop-item.taken c.write_payload.new.taken _ c.loop-item-test.true c.item-item.is i.1.1 (c.write_payload.ensures.taken ok),
+      ),
     )
 
 pub write_items-returns-clause-wrote : goal.write_items-returns-clause-wrote
@@ -138,11 +148,11 @@ write_wide_map-returns-then-not-write_pairs-clause-kept t c = grows_more c.args.
 
 pub write_pairs-returns-then-not-key-clause-kept : goal.write_pairs-returns-then-not-key-clause-kept
 write_pairs-returns-then-not-key-clause-kept t c =
-    grows_more c.args.out.now c.write-key.new.out c.write_value-value.new.out (grows_more c.args.out.now c.loop-at.out c.write-key.new.out c.loop-at.invariant.1 c.write-key.ensures.kept) c.write_value-value.ensures.kept
+    grows_more c.args.out.now c.write-key.new.out c.write_value-value.new.out (grows_more c.args.out.now c.loop-at.out c.write-key.new.out c.loop-at.invariant.1.0 c.write-key.ensures.kept) c.write_value-value.ensures.kept
 
 pub write_pairs-returns-then-not-value-clause-kept : goal.write_pairs-returns-then-not-value-clause-kept
 write_pairs-returns-then-not-value-clause-kept t c =
-    grows_more c.args.out.now c.write-key.new.out c.write_value-value.new.out (grows_more c.args.out.now c.loop-at.out c.write-key.new.out c.loop-at.invariant.1 c.write-key.ensures.kept) c.write_value-value.ensures.kept
+    grows_more c.args.out.now c.write-key.new.out c.write_value-value.new.out (grows_more c.args.out.now c.loop-at.out c.write-key.new.out c.loop-at.invariant.1.0 c.write-key.ensures.kept) c.write_value-value.ensures.kept
 
 pub write_described-returns-clause-wrote : goal.write_described-returns-clause-wrote
 write_described-returns-clause-wrote t c ok =
