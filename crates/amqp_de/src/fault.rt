@@ -3,10 +3,10 @@
 ghost use Rattle.std.specs.Prelude.{◌≡◌, IfSome};
 ghost use Rattle.amqp_de.specs.declared.fault.FaultKind.TheVariants.{Invalid, GaveUp};
 ghost use Rattle.amqp_de.specs.Results.{IsMemory, kind_of};
-ghost use Rattle.amqp_de.specs.FromBytes.{HasOffset, HasOffsetIn};
+ghost use Rattle.amqp_de.specs.FromBytes.{HasOffset, HasOffsetIn, lacks_part};
 
 use crate::kinds::{kind_numbered, number_of};
-use crate::offset::{TOO_FAR, offset_of, path_around};
+use crate::offset::{TOO_FAR, end_of, offset_of, path_around};
 use amqp_value::ValueKind;
 
 /// Why nothing was read.
@@ -192,14 +192,16 @@ impl Fault {
         ensures offset { HasOffsetIn bytes.now result }
     {
         let mut fault = self;
-        let offset = if fault.place & PLACED == 0 {
+        let offset = if fault.is_missing() {
+            end_of(bytes, fault.reason / 8)
+        } else if fault.place & PLACED == 0 {
             Some(0)
         } else {
             offset_of(bytes, fault.reason / 8, fault.index(), fault.field)
         };
         let at = match offset {
-            Some(offset) => OFFSET + offset.min(OFFSET - 1),
-            None => TOO_FAR,
+            Some(offset) if offset < OFFSET => OFFSET + offset,
+            _ => TOO_FAR,
         };
         fault.reason = fault.reason % 8 + 8 * at;
         fault
@@ -259,7 +261,9 @@ impl Fault {
     }
 
     /// Returns whether a required field or element is missing.
-    pub fn is_missing(&self) -> bool {
-        self.place & MISSING != 0
+    pub fn is_missing(&self) -> bool
+        ensures { result ≡ lacks_part self.now }
+    {
+        self.place / MISSING % 2 == 1
     }
 }

@@ -11,7 +11,7 @@ ghost use Rattle.amqp_de.specs.Answers.{Answers};
 ghost use Rattle.amqp_de.specs.Results.{ReadsAndRestores};
 ghost use Rattle.amqp_de.specs.FromBytes.{IsOfReading};
 ghost use Rattle.amqp_from_value.specs.Limited.{IsAllowed, ReadsAllowed, for_length, levels};
-ghost use Rattle.amqp_from_value.specs.Limited.{limits_for};
+ghost use Rattle.amqp_from_value.specs.Limited.{FailsWithin, limits_for};
 
 use crate::entries::has_entries_within;
 use amqp_data::Error;
@@ -74,8 +74,16 @@ pub fn from_slice_with<T: Deserialize>(
     bytes: &[u8],
     limits: Option<Limits>,
 ) -> Result<T, Error>
-    ensures { Answers (λ e. e ≡ OutOfMemory)
+    ensures read { Answers (λ e. e ≡ OutOfMemory)
         (ReadsAllowed T.reads (limits_for limits bytes.now) bytes.now) result }
+    ensures within { IfErr result (λ e. ¬ (e ≡ OutOfMemory) → ¬ (e ≡ TooLong) → (t : Tree) →
+        Encodes 256 bytes.now t → IsAllowed (limits_for limits bytes.now) bytes.now t) }
+    ensures law { (x : T) → T.restorable x →
+        IsAllowed (limits_for limits bytes.now) bytes.now (T.image x) →
+        MatchResult result (λ y. T.same y x) (λ e. e ≡ OutOfMemory) }
+    ensures fault { ((t : Tree) → ¬ Encodes 256 bytes.now t) →
+        IfErr result (FailsWithin (limits_for limits bytes.now) bytes.now) }
+    ensures kind { IfErr result (λ e. (t : Tree) → Encodes 256 bytes.now t → IsOfReading e) }
 {
     match from_slice_limited::<T>(alloc, bytes, limits_or_default(limits, bytes)) {
         Ok(read) => Ok(read),
@@ -120,6 +128,8 @@ pub fn from_slice_limited<T: Deserialize>(
         (t : Tree) → Encodes 256 bytes.now t → IsAllowed limits bytes.now t) }
     ensures law { (x : T) → T.restorable x → IsAllowed limits bytes.now (T.image x) →
         MatchResult result (λ y. T.same y x) (λ e. e ≡ OutOfMemory) }
+    ensures fault { ((t : Tree) → ¬ Encodes 256 bytes.now t) →
+        IfErr result (FailsWithin limits bytes.now) }
     ensures kind { IfErr result (λ e. (t : Tree) → Encodes 256 bytes.now t → IsOfReading e) }
 {
     if let Some(read) = read_in_one_pass::<T>(alloc, bytes, limits) {
@@ -163,6 +173,7 @@ pub(crate) fn decode_limited(alloc: Global, bytes: &[u8], limits: Limits) -> Res
         (t : Tree) → ¬ IsAllowed limits bytes.now t) }
     ensures none { IfErr result (λ e. ¬ (e ≡ OutOfMemory) → ¬ (e ≡ TooLong) →
         (t : Tree) → ¬ Encodes 256 bytes.now t) }
+    ensures fault { IfErr result (FailsWithin limits bytes.now) }
 {
     if bytes.len() > limits.bytes {
         return Err(Error::TooLong);
@@ -174,18 +185,22 @@ pub(crate) fn decode_limited(alloc: Global, bytes: &[u8], limits: Limits) -> Res
         Err(Error::OutOfMemory) => Err(Error::OutOfMemory),
         Err(Error::TooLong) => Err(Error::TooLong),
         Err(error) if depth == 256 => Err(error),
-        Err(_) => Err(deeper(alloc, bytes, limits.elements)),
+        Err(_) => Err(deeper(alloc, bytes, limits)),
     }
 }
 
 // Returns the error for bytes that encode no value of the allowed depth: `TooLong` if they encode a
 // deeper one.
-fn deeper(alloc: Global, bytes: &[u8], elements: u32) -> Error
-    ensures { ¬ (result ≡ OutOfMemory) → ¬ (result ≡ TooLong) →
+fn deeper(alloc: Global, bytes: &[u8], limits: Limits) -> Error
+    requires { (t : Tree) → ¬ Encodes (levels limits) bytes.now t }
+    ensures none { ¬ (result ≡ OutOfMemory) → ¬ (result ≡ TooLong) →
         (t : Tree) → ¬ Encodes 256 bytes.now t }
+    ensures fault { FailsWithin limits bytes.now result }
 {
-    match decode_value_limited(alloc, bytes, elements) {
+    match decode_value_limited(alloc, bytes, limits.elements) {
         Ok(_) => Error::TooLong,
+        Err(Error::OutOfMemory) => Error::OutOfMemory,
+        Err(Error::TooLong) => Error::TooLong,
         Err(error) => error,
     }
 }

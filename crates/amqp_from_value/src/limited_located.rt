@@ -1,13 +1,14 @@
 //! Reading a type from bytes within limits that says where the bytes have a fault, or which field
 //! could not be read.
 
-ghost use Rattle.std.specs.Prelude.{◌≡◌, IfErr};
+ghost use Rattle.std.specs.Prelude.{◌≡◌, ◌⊎◌, IfErr, MatchResult, None};
 ghost use Rattle.amqp_data.specs.declared.error.Error.TheVariants.{OutOfMemory, TooLong};
 ghost use Rattle.amqp_ser.specs.Tree.{Tree};
 ghost use Rattle.amqp_decode.specs.Located.{IsPlaced};
 ghost use Rattle.amqp_decode.specs.Encodes.{Encodes};
 ghost use Rattle.amqp_de.specs.Answers.{Answers};
-ghost use Rattle.amqp_from_value.specs.Limited.{ReadsAllowed, limits_for};
+ghost use Rattle.amqp_de.specs.FromBytes.{IsOfReading};
+ghost use Rattle.amqp_from_value.specs.Limited.{IsAllowed, ReadsAllowed, limits_for};
 ghost use Rattle.amqp_from_value.specs.LocatedErrors.{IsLocatedWithin, error_in};
 
 use crate::limited::{Limits, decode_limited, limits_or_default, read_in_one_pass};
@@ -38,7 +39,12 @@ pub fn from_slice_limited_located<T: Deserialize>(
 ) -> Result<T, SliceError>
     ensures read { Answers (λ e. error_in e ≡ OutOfMemory)
         (ReadsAllowed T.reads (limits_for limits bytes.now) bytes.now) result }
+    ensures law { (x : T) → T.restorable x →
+        IsAllowed (limits_for limits bytes.now) bytes.now (T.image x) →
+        MatchResult result (λ y. T.same y x) (λ e. error_in e ≡ OutOfMemory) }
     ensures place { IfErr result (IsLocatedWithin (limits_for limits bytes.now) bytes.now) }
+    ensures kind { IfErr result (λ e. (t : Tree) → Encodes 256 bytes.now t →
+        IsOfReading (error_in e)) }
 {
     match read_located::<T>(alloc, bytes, limits_or_default(limits, bytes)) {
         Ok(read) => Ok(read),
@@ -55,7 +61,11 @@ fn read_located<T: Deserialize>(
 ) -> Result<T, SliceError>
     ensures read { Answers (λ e. error_in e ≡ OutOfMemory)
         (ReadsAllowed T.reads limits bytes.now) result }
+    ensures law { (x : T) → T.restorable x → IsAllowed limits bytes.now (T.image x) →
+        MatchResult result (λ y. T.same y x) (λ e. error_in e ≡ OutOfMemory) }
     ensures place { IfErr result (IsLocatedWithin limits bytes.now) }
+    ensures kind { IfErr result (λ e. (t : Tree) → Encodes 256 bytes.now t →
+        IsOfReading (error_in e)) }
 {
     if let Some(read) = read_in_one_pass::<T>(alloc, bytes, limits) {
         return Ok(read);
@@ -75,6 +85,7 @@ fn with_place(error: Error, bytes: &[u8]) -> Located
     ensures error { result.error ≡ error }
     ensures place { ¬ (error ≡ OutOfMemory) → ¬ (error ≡ TooLong) →
         ((t : Tree) → ¬ Encodes 256 bytes.now t) → IsPlaced result.place 256 bytes.now }
+    ensures none { (error ≡ OutOfMemory) ⊎ (error ≡ TooLong) → result.place ≡ None }
 {
     let place = match error {
         Error::OutOfMemory => None,

@@ -3,10 +3,11 @@
 
 ghost use Rattle.std.specs.Prelude.{◌≡◌, IfErr, MatchResult};
 ghost use Rattle.amqp_data.specs.declared.error.Error.TheVariants.{OutOfMemory};
+ghost use Rattle.amqp_ser.specs.Tree.{Tree};
 ghost use Rattle.amqp_decode.specs.Encodes.{Encodes};
 ghost use Rattle.amqp_de.specs.Answers.{Answers};
 ghost use Rattle.amqp_from_value.specs.LocatedErrors.{IsLocatedIn, error_in};
-ghost use Rattle.amqp_de.specs.FromBytes.{ReadsEncoded};
+ghost use Rattle.amqp_de.specs.FromBytes.{IsOfReading, ReadsEncoded};
 
 use amqp_data::Error;
 use amqp_de::{Deserialize, Fault, MAX_INNER_LEVELS, from_value_located, read_bytes};
@@ -83,6 +84,8 @@ pub fn from_slice_located<T: Deserialize>(alloc: Global, bytes: &[u8]) -> Result
     ensures law { (x : T) → T.restorable x → Encodes 256 bytes.now (T.image x) →
         MatchResult result (λ y. T.same y x) (λ e. error_in e ≡ OutOfMemory) }
     ensures place { IfErr result (IsLocatedIn bytes.now) }
+    ensures kind { IfErr result (λ e. (t : Tree) → Encodes 256 bytes.now t →
+        IsOfReading (error_in e)) }
 {
     match read_bytes::<T>(alloc, bytes, MAX_INNER_LEVELS) {
         Some(read) => Ok(read),
@@ -97,6 +100,8 @@ fn read_by_value_located<T: Deserialize>(alloc: Global, bytes: &[u8]) -> Result<
     ensures law { (x : T) → T.restorable x → Encodes 256 bytes.now (T.image x) →
         MatchResult result (λ y. T.same y x) (λ e. error_in e ≡ OutOfMemory) }
     ensures place { IfErr result (IsLocatedIn bytes.now) }
+    ensures kind { IfErr result (λ e. (t : Tree) → Encodes 256 bytes.now t →
+        IsOfReading (error_in e)) }
 {
     match decode_value_located(alloc, bytes) {
         Ok(value) => match from_value_located::<T>(alloc, value) {

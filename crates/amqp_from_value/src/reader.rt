@@ -2,8 +2,9 @@
 
 ghost use Rattle.std.specs.Prelude.{◌≤◌, IfOk, IfErr, OnErr};
 ghost use Rattle.amqp_frame.specs.Reader.{Takes};
-ghost use Rattle.amqp_from_value.specs.Limited.{ReadsNextAllowed, RefusesNextAllowed};
-ghost use Rattle.amqp_from_value.specs.FromReader.{ReadsNext, RefusesNext};
+ghost use Rattle.amqp_decode.specs.Encodes.{Encodes};
+ghost use Rattle.amqp_from_value.specs.Limited.{IsAllowed, ReadsNextAllowed, RefusesNextAllowed};
+ghost use Rattle.amqp_from_value.specs.FromReader.{HasKindOfReading, ReadsNext, RefusesNext, RestoresNext};
 
 use crate::limited::{Limits, from_slice_limited};
 use amqp_data::Error;
@@ -27,6 +28,9 @@ pub fn from_reader<T: Deserialize, R: Read>(alloc: Global, reader: &mut R) -> Re
     ensures read { IfOk result (ReadsNext T.reads (R.left reader.old) (R.left reader.new)) }
     ensures refused { IfErr result (RefusesNext T.reads (R.left reader.old) (R.left reader.new)
         (R.failures reader.old) (R.failures reader.new)) }
+    ensures law { RestoresNext (Encodes 256) T.image T.restorable T.same
+        (R.left reader.old) result }
+    ensures kind { HasKindOfReading (Encodes 256) (R.left reader.old) result }
     ensures kept { OnErr result (Takes (R.left reader.old) (R.left reader.new)) }
     ensures count { R.failures reader.old ≤ R.failures reader.new }
 {
@@ -63,6 +67,9 @@ pub fn from_reader_limited<T: Deserialize, R: Read>(
     ensures refused { IfErr result
         (RefusesNextAllowed T.reads limits (R.left reader.old) (R.left reader.new)
         (R.failures reader.old) (R.failures reader.new)) }
+    ensures law { RestoresNext (IsAllowed limits) T.image T.restorable T.same
+        (R.left reader.old) result }
+    ensures kind { HasKindOfReading (Encodes 256) (R.left reader.old) result }
     ensures kept { OnErr result (Takes (R.left reader.old) (R.left reader.new)) }
     ensures count { R.failures reader.old ≤ R.failures reader.new }
 {

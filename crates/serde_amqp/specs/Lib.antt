@@ -9,16 +9,25 @@ pub mod Derive
 -- Definitions only in the contracts of private functions, and `texts` of Lines.
 pub mod CutSteps
 -- Definitions of the crates below in the contracts of re-exported items.
+pub use Rattle.amqp_data.specs.DescriptorParts
+pub use Rattle.amqp_data.specs.Displayed
+pub use Rattle.amqp_data.specs.Fixed as FixedContents
 pub use Rattle.amqp_data.specs.FormatCode
 pub use Rattle.amqp_data.specs.Items
+pub use Rattle.amqp_data.specs.Iterates
+pub use Rattle.amqp_data.specs.Lends
+pub use Rattle.amqp_data.specs.MapEntry
+pub use Rattle.amqp_data.specs.MapIters
+pub use Rattle.amqp_data.specs.MapLends
 pub use Rattle.amqp_data.specs.Pairs
+pub use Rattle.amqp_data.specs.Text as SymbolText
 pub use Rattle.amqp_data.specs.declared.array.Array
 pub use Rattle.amqp_data.specs.declared.bits.F32Bits
 pub use Rattle.amqp_data.specs.declared.bits.F64Bits
 pub use Rattle.amqp_data.specs.declared.byte_buf.ByteBuf
+pub use Rattle.amqp_data.specs.declared.decimal.Dec128
 pub use Rattle.amqp_data.specs.declared.decimal.Dec32
 pub use Rattle.amqp_data.specs.declared.decimal.Dec64
-pub use Rattle.amqp_data.specs.declared.decimal.Dec128
 pub use Rattle.amqp_data.specs.declared.described.Described
 pub use Rattle.amqp_data.specs.declared.descriptor.Descriptor
 pub use Rattle.amqp_data.specs.declared.error.Error
@@ -33,6 +42,7 @@ pub use Rattle.amqp_frame.specs.Cut
 pub use Rattle.amqp_frame.specs.EncodedValue
 pub use Rattle.amqp_frame.specs.Reader
 pub use Rattle.amqp_frame.specs.Taking
+pub use Rattle.amqp_frame.specs.Whole
 pub use Rattle.amqp_frame.specs.declared.lazy.LazyValue
 pub use Rattle.amqp_ser.specs.Carried
 pub use Rattle.amqp_ser.specs.Composites
@@ -44,6 +54,9 @@ pub use Rattle.amqp_ser.specs.Limits
 pub use Rattle.amqp_ser.specs.Marked
 pub use Rattle.amqp_ser.specs.Meant
 pub use Rattle.amqp_ser.specs.Named
+pub use Rattle.amqp_ser.specs.OpenCompounds
+pub use Rattle.amqp_ser.specs.OpenStructs
+pub use Rattle.amqp_ser.specs.Ranged
 pub use Rattle.amqp_ser.specs.SizeAndBytes
 pub use Rattle.amqp_ser.specs.Structs
 pub use Rattle.amqp_ser.specs.Tree
@@ -55,28 +68,65 @@ pub use Rattle.amqp_ser.specs.declared.pending.Pending
 pub use Rattle.amqp_size.specs.Width
 pub use Rattle.amqp_wire.specs.Appended
 pub use Rattle.amqp_wire.specs.EmptyArrays
+pub use Rattle.amqp_wire.specs.LazyOf
+pub use Rattle.amqp_wire.specs.ResultBytes
 pub use Rattle.amqp_wire.specs.Strict
+pub use Rattle.amqp_value.specs.Accessors
+pub use Rattle.amqp_value.specs.Builds
+pub use Rattle.amqp_value.specs.Contents
+pub use Rattle.amqp_value.specs.Conversions
+pub use Rattle.amqp_value.specs.Converts
+pub use Rattle.amqp_value.specs.FormatCode as ValueFormatCode
 pub use Rattle.amqp_value.specs.Image
+pub use Rattle.amqp_value.specs.MapBuilder
 pub use Rattle.amqp_value.specs.Plain
+pub use Rattle.amqp_value.specs.ShortKeys
 pub use Rattle.amqp_value.specs.Sound
 pub use Rattle.amqp_value.specs.Text
 pub use Rattle.amqp_value.specs.TreeOf
+pub use Rattle.amqp_value.specs.ValueKind
+pub use Rattle.amqp_value.specs.ValueLends
 pub use Rattle.amqp_value.specs.declared.value.Value
 pub use Rattle.amqp_decode.specs.Depth
+pub use Rattle.amqp_decode.specs.Encodes
+pub use Rattle.amqp_decode.specs.Faults
+pub use Rattle.amqp_decode.specs.Located
+pub use Rattle.amqp_decode.specs.Places as FaultPlaces
+pub use Rattle.amqp_decode.specs.WithoutBytes
+pub use Rattle.amqp_decode.specs.declared.located.Located as LocatedError
+pub use Rattle.amqp_decode.specs.declared.located.Place
+pub use Rattle.amqp_to_value.specs.HasLazy
+pub use Rattle.amqp_to_value.specs.ImageOf
 pub use Rattle.amqp_de.specs.Answers
 pub use Rattle.amqp_de.specs.Composites as ReadComposites
 pub use Rattle.amqp_de.specs.Defaults
 pub use Rattle.amqp_de.specs.Enums
 pub use Rattle.amqp_de.specs.Fields
+pub use Rattle.amqp_de.specs.FromBytes
 pub use Rattle.amqp_de.specs.Laws
+pub use Rattle.amqp_de.specs.Maps
 pub use Rattle.amqp_de.specs.Parts
 pub use Rattle.amqp_de.specs.Places
 pub use Rattle.amqp_de.specs.Present
 pub use Rattle.amqp_de.specs.Reads
 pub use Rattle.amqp_de.specs.Results
-pub use Rattle.amqp_de.specs.FromBytes
+pub use Rattle.amqp_de.specs.Texts
+pub use Rattle.amqp_de.specs.Values
 pub use Rattle.amqp_de.specs.declared.branches.Either
 pub use Rattle.amqp_de.specs.declared.branches.Never
 pub use Rattle.amqp_de.specs.declared.fault.Fault
 pub use Rattle.amqp_de.specs.declared.fault.FaultKind
 pub use Rattle.amqp_de.specs.declared.fields.FieldValues
+pub use Rattle.amqp_visit.specs.Accepted
+pub use Rattle.amqp_visit.specs.Access
+pub use Rattle.amqp_visit.specs.Events
+pub use Rattle.amqp_visit.specs.Results as VisitResults
+pub use Rattle.amqp_visit.specs.Trees
+pub use Rattle.amqp_from_value.specs.Entries
+pub use Rattle.amqp_from_value.specs.FromReader
+pub use Rattle.amqp_from_value.specs.HasImage
+pub use Rattle.amqp_from_value.specs.Limited
+pub use Rattle.amqp_from_value.specs.LocatedErrors
+pub use Rattle.amqp_from_value.specs.ShapeTrees
+pub use Rattle.amqp_from_value.specs.declared.limited.Limits as ReadLimits
+pub use Rattle.amqp_from_value.specs.declared.located.SliceError

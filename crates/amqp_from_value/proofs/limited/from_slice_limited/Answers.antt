@@ -2,7 +2,7 @@ use Rattle.std.proofs.Common.{subst}
 use Rattle.amqp_value.specs.TreeOf.{tree_of}
 use Rattle.amqp_decode.proofs.Whole.{one-tree}
 use Rattle.amqp_from_value.specs.Limited.{IsAllowed, levels}
-use Rattle.amqp_from_value.proofs.LimitedLemmas.{allowed-tree, unread-allowed}
+use Rattle.amqp_from_value.proofs.LimitedLemmas.{allowed-deep, allowed-tree, unread-allowed}
 use Rattle.amqp_from_value.proofs.limited.from_slice_limited.Goals as goal
 
 pub returns-in-Some-clause-read : goal.returns-in-Some-clause-read
@@ -30,3 +30,7 @@ returns-in-Err-from_value-clause-within g c = λ _ _ t sp.
 pub returns-in-Err-from_value-clause-law : goal.returns-in-Err-from_value-clause-law
 returns-in-Err-from_value-clause-law g c = λ x r a.
     c.in-Err-from_value.ensures.law x r (allowed-tree c.args.limits c.args.bytes.now (tree_of c.in-Ok.value) (g.T.Deserialize.image x) c.in-Ok.ensures.ok a)
+
+pub returns-in-Err-from_value-clause-fault : goal.returns-in-Err-from_value-clause-fault
+returns-in-Err-from_value-clause-fault g c = λ none.
+    absurd (none (tree_of c.in-Ok.value) (allowed-deep c.args.limits c.args.bytes.now (tree_of c.in-Ok.value) c.in-Ok.ensures.ok))

@@ -1,8 +1,41 @@
-use Rattle.amqp_from_value.proofs.FromReaderLemmas.{refused_next}
+use Rattle.amqp_from_value.proofs.FromReaderLemmas.{refused_next, restores_next, restores_none, kind_next, kind_none, kind_read, fails_by, kind_by, whole_256}
+use Rattle.std.proofs.Common.{Ok, Err}
+use Rattle.amqp_decode.specs.Encodes.{Encodes}
 use Rattle.amqp_from_value.proofs.reader.from_reader.Goals as goal
 
 pub returns-in-Ok-clause-refused : goal.returns-in-Ok-clause-refused
 returns-in-Ok-clause-refused g c =
     refused_next g.T.Deserialize.reads (g.R.Read.left c.args.reader.now) (g.R.Read.left c.from_reader.new.reader)
     (g.R.Read.failures c.args.reader.now) (g.R.Read.failures c.from_reader.new.reader) c.in-Ok.lazy c.as_slice.result.now
-    c.in-Err-from_slice.error c.in-Ok.ensures.encoded.0 c.in-Ok.ensures.encoded.1 c.as_slice.ensures.bytes c.in-Err-from_slice.ensures.read
+    c.in-Err-from_slice.error c.in-Ok.ensures.encoded.0 c.in-Ok.ensures.encoded.1 c.as_slice.ensures.bytes c.in-Err-from_slice.ensures.read (c.in-Err-from_slice.ensures.fault, c.in-Err-from_slice.ensures.kind)
+
+pub returns-in-Ok-from_slice-clause-law : goal.returns-in-Ok-from_slice-clause-law
+returns-in-Ok-from_slice-clause-law g c =
+    let own = g.T.Deserialize in
+    restores_next (Encodes 256) whole_256 own.image own.restorable own.same (g.R.Read.left c.args.reader.now) (g.R.Read.left c.from_reader.new.reader)
+    c.in-Ok.lazy c.as_slice.result.now (Ok c.in-Ok-from_slice.read) c.in-Ok.ensures.encoded.0 c.in-Ok.ensures.encoded.1 c.as_slice.ensures.bytes c.in-Ok-from_slice.ensures.law
+
+pub returns-in-Ok-from_slice-clause-kind : goal.returns-in-Ok-from_slice-clause-kind
+returns-in-Ok-from_slice-clause-kind g c = kind_read (Encodes 256) whole_256 (g.R.Read.left c.args.reader.now) c.in-Ok-from_slice.read
+
+pub returns-in-Ok-clause-law : goal.returns-in-Ok-clause-law
+returns-in-Ok-clause-law g c =
+    let own = g.T.Deserialize in
+    restores_next (Encodes 256) whole_256 own.image own.restorable own.same (g.R.Read.left c.args.reader.now) (g.R.Read.left c.from_reader.new.reader)
+    c.in-Ok.lazy c.as_slice.result.now (Err c.in-Err-from_slice.error) c.in-Ok.ensures.encoded.0 c.in-Ok.ensures.encoded.1 c.as_slice.ensures.bytes c.in-Err-from_slice.ensures.law
+
+pub returns-in-Ok-clause-kind : goal.returns-in-Ok-clause-kind
+returns-in-Ok-clause-kind g c =
+    kind_next (Encodes 256) whole_256 (g.R.Read.left c.args.reader.now) (g.R.Read.left c.from_reader.new.reader)
+    c.in-Ok.lazy c.as_slice.result.now c.in-Err-from_slice.error c.in-Ok.ensures.encoded.0 c.in-Ok.ensures.encoded.1 c.as_slice.ensures.bytes c.in-Err-from_slice.ensures.kind
+
+pub returns-in-Err-clause-law : goal.returns-in-Err-clause-law
+returns-in-Err-clause-law g c =
+    let own = g.T.Deserialize in
+    restores_none (Encodes 256) whole_256 own.image own.restorable own.same (g.R.Read.left c.args.reader.now) c.in-Err.error
+    (fails_by (g.R.Read.left c.args.reader.now) (g.R.Read.left c.from_reader.new.reader) (g.R.Read.failures c.args.reader.now) (g.R.Read.failures c.from_reader.new.reader) c.in-Err.error c.in-Err.ensures.refused)
+
+pub returns-in-Err-clause-kind : goal.returns-in-Err-clause-kind
+returns-in-Err-clause-kind g c =
+    kind_none (Encodes 256) whole_256 (g.R.Read.left c.args.reader.now) c.in-Err.error
+    (kind_by (g.R.Read.left c.args.reader.now) (g.R.Read.left c.from_reader.new.reader) (g.R.Read.failures c.args.reader.now) (g.R.Read.failures c.from_reader.new.reader) c.in-Err.error c.in-Err.ensures.refused)
