@@ -83,7 +83,7 @@ struct EncodedPart<'a> {
 
 // Returns the format code after all descriptors, and the bytes after it.
 fn opened(at: EncodedPart) -> Option<(u8, &[u8])>
-    ensures { IfSome result (λ r. IsSuffix at.bytes.now r.1.now) }
+    ensures { IfSome result (λ r. IsSuffix at.entry.bytes.now r.1.now) }
 {
     if at.code != 0 {
         return Some((at.code, at.bytes));
@@ -101,7 +101,7 @@ fn opened(at: EncodedPart) -> Option<(u8, &[u8])>
 
 // Returns the first part of a list, an array or a map.
 fn first_of(at: EncodedPart) -> Option<EncodedPart>
-    ensures { IfSome result (λ part. IsSuffix at.bytes.now part.bytes.now) }
+    ensures { IfSome result (λ part. IsSuffix at.entry.bytes.now part.bytes.now) }
 {
     let (code, payload) = opened(at)?;
     let header = match code {
@@ -120,7 +120,7 @@ fn first_of(at: EncodedPart) -> Option<EncodedPart>
 
 // Returns what follows a value.
 fn next_to(at: EncodedPart) -> Option<EncodedPart>
-    ensures { IfSome result (λ next. StartWithPart at.bytes.now next.bytes.now) }
+    ensures { IfSome result (λ next. StartWithPart at.entry.bytes.now next.bytes.now) }
 {
     let EncodedPart { code, bytes } = at;
     let bytes = bytes.get(part_len(code, bytes)?..)?;
@@ -159,7 +159,7 @@ fn is_map(at: EncodedPart) -> bool {
 
 // Returns the element at this index, the key of the entry, or what follows the last one.
 fn part_of(at: EncodedPart, index: usize) -> Option<EncodedPart>
-    ensures { IfSome result (λ part. IsSuffix at.bytes.now part.bytes.now) }
+    ensures { IfSome result (λ part. IsSuffix at.entry.bytes.now part.bytes.now) }
 {
     let mut part = first_of(at)?;
     let values = if is_map(at) { 2 } else { 1 };
@@ -172,7 +172,7 @@ fn part_of(at: EncodedPart, index: usize) -> Option<EncodedPart>
 // Returns the element at this position, or the value of the entry, from 1; at 0, the value itself.
 // `None` if the key has parts too.
 fn value_in(at: EncodedPart, position: usize) -> Option<EncodedPart>
-    ensures { IfSome result (λ value. IsSuffix at.bytes.now value.bytes.now) }
+    ensures { IfSome result (λ value. IsSuffix at.entry.bytes.now value.bytes.now) }
 {
     if position == 0 {
         return Some(at);

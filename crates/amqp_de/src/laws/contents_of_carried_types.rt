@@ -50,21 +50,25 @@ pub fn restorable_tuples<A: Deserialize, B: Deserialize, C: Deserialize, D: Dese
 /// Two pairs have the same contents if both their fields do, and so have tuples of one, three and
 /// four fields.
 pub fn contents_of_tuples<A: Deserialize, B: Deserialize, C: Deserialize, D: Deserialize>(
-    one: (&(A,), &(A,)),
-    two: (&(A, B), &(A, B)),
-    three: (&(A, B, C), &(A, B, C)),
-    four: (&(A, B, C, D), &(A, B, C, D)),
+    one: &(A,),
+    other_one: &(A,),
+    two: &(A, B),
+    other_two: &(A, B),
+    three: &(A, B, C),
+    other_three: &(A, B, C),
+    four: &(A, B, C, D),
+    other_four: &(A, B, C, D),
 )
-    ensures one { ⟦<(A,) as Deserialize>⟧.same one.0.now one.1.now
-        ↔ A.same one.0.now.0 one.1.now.0 }
-    ensures two { ⟦<(A, B) as Deserialize>⟧.same two.0.now two.1.now
-        ↔ (A.same two.0.now.0 two.1.now.0 × B.same two.0.now.1 two.1.now.1) }
-    ensures three { ⟦<(A, B, C) as Deserialize>⟧.same three.0.now three.1.now
-        ↔ (A.same three.0.now.0 three.1.now.0 × B.same three.0.now.1 three.1.now.1
-        × C.same three.0.now.2 three.1.now.2) }
-    ensures four { ⟦<(A, B, C, D) as Deserialize>⟧.same four.0.now four.1.now
-        ↔ (A.same four.0.now.0 four.1.now.0 × B.same four.0.now.1 four.1.now.1
-        × C.same four.0.now.2 four.1.now.2 × D.same four.0.now.3 four.1.now.3) }
+    ensures one { ⟦<(A,) as Deserialize>⟧.same one.now other_one.now
+        ↔ A.same one.now.0 other_one.now.0 }
+    ensures two { ⟦<(A, B) as Deserialize>⟧.same two.now other_two.now
+        ↔ (A.same two.now.0 other_two.now.0 × B.same two.now.1 other_two.now.1) }
+    ensures three { ⟦<(A, B, C) as Deserialize>⟧.same three.now other_three.now
+        ↔ (A.same three.now.0 other_three.now.0 × B.same three.now.1 other_three.now.1
+        × C.same three.now.2 other_three.now.2) }
+    ensures four { ⟦<(A, B, C, D) as Deserialize>⟧.same four.now other_four.now
+        ↔ (A.same four.now.0 other_four.now.0 × B.same four.now.1 other_four.now.1
+        × C.same four.now.2 other_four.now.2 × D.same four.now.3 other_four.now.3) }
 {}
 
 /// Two arrays of Rust have the same contents if their elements do, in order.
@@ -75,14 +79,16 @@ pub fn contents_of_fixed_lengths<T: Deserialize, const N: usize>(one: &[T; N], o
 /// Two maps have the same contents if the keys and the values of their entries do, in order, or for
 /// a `HashMap` in some order.
 pub fn contents_of_maps<K: Deserialize + Ord + Hash, V: Deserialize>(
-    sorted: (&BTreeMap<K, V>, &BTreeMap<K, V>),
-    hashed: (&HashMap<K, V>, &HashMap<K, V>),
+    sorted: &BTreeMap<K, V>,
+    other_sorted: &BTreeMap<K, V>,
+    hashed: &HashMap<K, V>,
+    other_hashed: &HashMap<K, V>,
 )
     ensures ordered { (m n : OrderedMap K V) → ⟦<OrderedMap<K, V> as Deserialize>⟧.same m n
         ↔ AllZip (λ p q. K.same p.0 q.0 × V.same p.1 q.1) (entries_of m) (entries_of n) }
-    ensures sorted { ⟦<BTreeMap<K, V> as Deserialize>⟧.same sorted.0.now sorted.1.now
+    ensures sorted { ⟦<BTreeMap<K, V> as Deserialize>⟧.same sorted.now other_sorted.now
         ↔ AllZip (λ p q. K.same p.0 q.0 × V.same p.1 q.1)
-        sorted.0.now.entries sorted.1.now.entries }
-    ensures hashed { ⟦<HashMap<K, V> as Deserialize>⟧.same hashed.0.now hashed.1.now
-        ↔ SameInSomeOrder (λ p q. K.same p.0 q.0 × V.same p.1 q.1) hashed.0.now hashed.1.now }
+        sorted.now.entries other_sorted.now.entries }
+    ensures hashed { ⟦<HashMap<K, V> as Deserialize>⟧.same hashed.now other_hashed.now
+        ↔ SameInSomeOrder (λ p q. K.same p.0 q.0 × V.same p.1 q.1) hashed.now other_hashed.now }
 {}
