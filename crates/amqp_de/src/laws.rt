@@ -9,6 +9,7 @@ ghost use Rattle.std.specs.declared.cmp.Ordering.TheVariants.{Equal};
 ghost use Rattle.amqp_data.specs.Pairs as pairs;
 ghost use Rattle.amqp_de.specs.Maps.{AreDistinct, AreAscending};
 
+pub mod contents_of_carried_types;
 pub mod readings_of_carried_types;
 
 use crate::deserialize::Deserialize;

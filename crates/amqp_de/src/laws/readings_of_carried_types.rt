@@ -284,4 +284,6 @@ pub fn readings_of_values()
         ⟦<Value as Deserialize>⟧.reads t v ↔ tree_of v ≡ t }
     ensures image { (v : Value) → ⟦<Value as Deserialize>⟧.image v ≡ tree_of v }
     ensures restorable { (v : Value) → ⟦<Value as Deserialize>⟧.restorable v ↔ IsSound v }
+    ensures same { (v w : Value) →
+        ⟦<Value as Deserialize>⟧.same v w ↔ tree_of v ≡ tree_of w }
 {}
