@@ -50,6 +50,7 @@ pub(crate) fn offset_of(
 }
 
 /// Returns the offset of the end of the list, array or map with this path.
+#[tactic(auto, using(crate::proofs::Offsets::part_ends))]
 pub(crate) fn end_of(bytes: &[u8], path: usize) -> Option<usize>
     ensures bound { IfSome result (λ n. n ≤ length bytes.now) }
     ensures end { IfSome result (EndsPart bytes.now) }
@@ -119,6 +120,7 @@ fn first_of(at: EncodedPart) -> Option<EncodedPart>
 }
 
 // Returns what follows a value.
+#[tactic(auto, using(crate::proofs::Offsets::part_skip))]
 fn next_to(at: EncodedPart) -> Option<EncodedPart>
     ensures { IfSome result (λ next. StartWithPart at.entry.bytes.now next.bytes.now) }
 {
