@@ -19,8 +19,8 @@ suffix_trans {r} {s} {t} a b = (a.0 ++ b.0, a.1 ∙ (ap (λ x. a.0 ++ x) b.1 ∙
 pub suffix_next : {bytes rest after : List ℕ} {b : ℕ} → IsSuffix bytes rest → rest ≡ b ∷ after → IsSuffix bytes after
 suffix_next {bytes} {rest} {after} {b} a e = suffix_trans a (b ∷ [], e)
 
-pub suffix_skip : {bytes s next : List ℕ} {n : ℕ} → IsSuffix bytes s → next ≡ take (length s - n) (drop n s) → IsSuffix bytes next
-suffix_skip {bytes} {s} {next} {n} a e =
+pub suffix_skip : {bytes s next : List ℕ} (n : ℕ) → IsSuffix bytes s → next ≡ take (length s - n) (drop n s) → IsSuffix bytes next
+suffix_skip {bytes} {s} {next} n a e =
     let same : next ≡ drop n s = e ∙ take_all (length s - n) (drop n s) (omega (arith, length-drop n s)) in
     suffix_trans a (take n s, sym (take-append-drop n s) ∙ ap (λ x. take n s ++ x) (sym same))
 
@@ -52,9 +52,14 @@ suffix_if f bytes from None a p = tt
 suffix_if f bytes from (Some x) a p = suffix_trans a (suffix_part p)
 
 -- the lengths of the payloads of a code
-pub fixed_len : (code w : ℕ) (s : List ℕ) → Fixed w ≡ category code → w ≡ payload_len (category code) s
+fixed_size : (w : ℕ) (s : List ℕ) → w ≡ payload_len (Fixed w) s
 unfolding size_width body_len
-fixed_len code w s e = subst (λ k. w ≡ payload_len k s) e refl
+fixed_size w s =
+    let same : w ≡ 0 + w = omega arith in
+    same
+
+pub fixed_len : (code w : ℕ) (s : List ℕ) → Fixed w ≡ category code → w ≡ payload_len (category code) s
+fixed_len code w s e = subst (λ k. w ≡ payload_len k s) e (fixed_size w s)
 
 first_index : (s : List ℕ) (b : ℕ) → Some b ≡ slice_get s 0 → 1 + b ≡ payload_len OneByteSize s
 unfolding size_width body_len

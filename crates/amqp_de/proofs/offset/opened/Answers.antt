@@ -5,4 +5,4 @@ pub returns-then-code-ne0 : goal.returns-then-code-ne0
 returns-then-code-ne0 c = suffix_next c.descriptors.invariant c.in_ok-code.ensures.cases.0
 
 pub descriptors-preserved : goal.descriptors-preserved
-descriptors-preserved c = suffix_skip (suffix_next c.descriptors.invariant c.in_ok-code.ensures.cases.0) c.in_ok-rest.ensures.lookup.0.2
+descriptors-preserved c = suffix_skip _ (suffix_next c.descriptors.invariant c.in_ok-code.ensures.cases.0) c.in_ok-rest.ensures.lookup.0.2
