@@ -1,7 +1,8 @@
 -- What is read from encoded bytes (AMQP 1.0 part 1, sections 1.2 and 1.6).
-use Rattle.std.specs.Prelude.{ℕ, List, length, ◌≡◌, ◌+◌, ◌/◌, ◌^◌, ◌≤◌}
+use Rattle.std.specs.Prelude.{ℕ, Bool, true, List, ◌∷◌, ◌++◌, length, ◌≡◌, ◌==◌, ◌⊎◌, ◌+◌, ◌/◌, ◌%◌, ◌^◌, ◌≤◌}
 use Rattle.amqp_data.specs.declared.error.Error.{Error}
 use Rattle.amqp_data.specs.declared.error.Error.TheVariants as error
+use Rattle.amqp_frame.specs.EncodedValue.{IsEncodedValue}
 use Rattle.amqp_ser.specs.Tree.{Tree}
 use Rattle.amqp_decode.specs.Encodes.{Encodes}
 use Rattle.amqp_de.specs.declared.fault.Fault.{Fault}
@@ -39,6 +40,23 @@ kind_for e = fault.Invalid
 abbrev pub HasOffset : Fault → ℕ → Type 0
 HasOffset e n = e.reason / 8 ≡ 2 ^ 60 + n
 
--- The offset of the error, if it is known, is in the bytes.
+-- A required field or element is missing.
+abbrev pub lacks_part : Fault → Bool
+lacks_part e = e.place / 2 ^ 18 % 2 == 1
+
+-- An encoded value, or an element of an array, whose code is not repeated.
+abbrev pub IsPart : List ℕ → Type 0
+IsPart part = IsEncodedValue part ⊎ ((code : ℕ) × IsEncodedValue (code ∷ part))
+
+-- The bytes before `rest` are one.
+abbrev pub StartWithPart : List ℕ → List ℕ → Type 0
+StartWithPart bytes rest = (part : List ℕ) × (bytes ≡ part ++ rest) × IsPart part
+
+-- Such a part of the bytes ends after the first n of them.
+abbrev pub EndsPart : List ℕ → ℕ → Type 0
+EndsPart bytes n = (before from rest : List ℕ) × (bytes ≡ before ++ from) × StartWithPart from rest × (n + length rest ≡ length bytes)
+
+-- The offset of the error, if it is known, is in the bytes. If a field is missing, it is the end of a
+-- value in them, that which lacks the field.
 abbrev pub HasOffsetIn : List ℕ → Fault → Type 0
-HasOffsetIn bytes e = e.reason / 8 ≤ 2 ^ 60 + length bytes
+HasOffsetIn bytes e = (e.reason / 8 ≤ 2 ^ 60 + length bytes) × (lacks_part e ≡ true → (n : ℕ) → HasOffset e n → EndsPart bytes n)

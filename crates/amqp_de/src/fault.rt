@@ -1,12 +1,12 @@
 //! The error of reading.
 
-ghost use Rattle.std.specs.Prelude.{◌≡◌, IfSome};
+ghost use Rattle.std.specs.Prelude.{◌≡◌, ◌≤◌, ◌<◌, ◌/◌, ◌^◌, IfSome, length, true};
 ghost use Rattle.amqp_de.specs.declared.fault.FaultKind.TheVariants.{Invalid, GaveUp};
 ghost use Rattle.amqp_de.specs.Results.{IsMemory, kind_of};
-ghost use Rattle.amqp_de.specs.FromBytes.{HasOffset, HasOffsetIn};
+ghost use Rattle.amqp_de.specs.FromBytes.{EndsPart, HasOffset, HasOffsetIn, lacks_part};
 
 use crate::kinds::{kind_numbered, number_of};
-use crate::offset::{TOO_FAR, offset_of, path_around};
+use crate::offset::{TOO_FAR, end_of, offset_of, path_around};
 use amqp_value::ValueKind;
 
 /// Why nothing was read.
@@ -191,17 +191,35 @@ impl Fault {
         ensures kind { kind_of result ≡ kind_of self }
         ensures offset { HasOffsetIn bytes.now result }
     {
-        let mut fault = self;
-        let offset = if fault.place & PLACED == 0 {
+        match self.offset_in(bytes) {
+            Some(offset) if offset < OFFSET => self.with_path(OFFSET + offset),
+            _ => self.with_path(TOO_FAR),
+        }
+    }
+
+    // Returns the offset that its path has in the bytes.
+    fn offset_in(&self, bytes: &[u8]) -> Option<usize>
+        ensures bound { IfSome result (λ n. n ≤ length bytes.now) }
+        ensures end { lacks_part self.now ≡ true → IfSome result (EndsPart bytes.now) }
+    {
+        if self.is_missing() {
+            end_of(bytes, self.reason / 8)
+        } else if self.place & PLACED == 0 {
             Some(0)
         } else {
-            offset_of(bytes, fault.reason / 8, fault.index(), fault.field)
-        };
-        let at = match offset {
-            Some(offset) => OFFSET + offset.min(OFFSET - 1),
-            None => TOO_FAR,
-        };
-        fault.reason = fault.reason % 8 + 8 * at;
+            offset_of(bytes, self.reason / 8, self.index(), self.field)
+        }
+    }
+
+    // Replaces the path.
+    fn with_path(self, path: usize) -> Fault
+        requires { path < 2 ^ 61 }
+        ensures kind { kind_of result ≡ kind_of self }
+        ensures path { result.reason / 8 ≡ path }
+        ensures place { result.place ≡ self.place }
+    {
+        let mut fault = self;
+        fault.reason = fault.reason % 8 + 8 * path;
         fault
     }
 
@@ -259,7 +277,9 @@ impl Fault {
     }
 
     /// Returns whether a required field or element is missing.
-    pub fn is_missing(&self) -> bool {
-        self.place & MISSING != 0
+    pub fn is_missing(&self) -> bool
+        ensures { result ≡ lacks_part self.now }
+    {
+        self.place / MISSING % 2 == 1
     }
 }
