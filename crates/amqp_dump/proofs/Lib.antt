@@ -1,3 +1,4 @@
 pub mod Ahead
 pub mod Entries
+pub mod KindLemmas
 pub mod Printable

@@ -1,5 +1,10 @@
 //! The types of values by their format codes.
 
+ghost use Rattle.std.specs.Prelude.{◌≡◌, ◌↔◌, IfSome, IsSome};
+ghost use Rattle.amqp_dump.specs.KindOfCode.{AllHaveKind, IsPrimitive};
+ghost use Rattle.amqp_dump.specs.Kinds.{kind_named};
+
+use amqp_data::EncodingCodes;
 use amqp_value::ValueKind;
 
 /// Returns the type of the values with this format code, or `None` if no primitive type has it.
@@ -11,33 +16,50 @@ use amqp_value::ValueKind;
 /// # Example
 ///
 /// `0x52` gives `ValueKind::Uint`.
-pub fn kind_of_code(code: u8) -> Option<ValueKind> {
-    let kind = match code {
-        0x40 => ValueKind::Null,
-        0x41 | 0x42 | 0x56 => ValueKind::Bool,
-        0x50 => ValueKind::Ubyte,
-        0x60 => ValueKind::Ushort,
-        0x43 | 0x52 | 0x70 => ValueKind::Uint,
-        0x44 | 0x53 | 0x80 => ValueKind::Ulong,
-        0x51 => ValueKind::Byte,
-        0x61 => ValueKind::Short,
-        0x54 | 0x71 => ValueKind::Int,
-        0x55 | 0x81 => ValueKind::Long,
-        0x72 => ValueKind::Float,
-        0x82 => ValueKind::Double,
-        0x74 => ValueKind::Decimal32,
-        0x84 => ValueKind::Decimal64,
-        0x94 => ValueKind::Decimal128,
-        0x73 => ValueKind::Char,
-        0x83 => ValueKind::Timestamp,
-        0x98 => ValueKind::Uuid,
-        0xa0 | 0xb0 => ValueKind::Binary,
-        0xa1 | 0xb1 => ValueKind::String,
-        0xa3 | 0xb3 => ValueKind::Symbol,
-        0x45 | 0xc0 | 0xd0 => ValueKind::List,
-        0xc1 | 0xd1 => ValueKind::Map,
-        0xe0 | 0xf0 => ValueKind::Array,
-        _ => return None,
+#[tactic(auto, using(crate::proofs::KindLemmas::named_kind, crate::proofs::KindLemmas::named_primitive, crate::proofs::KindLemmas::unnamed_primitive))]
+pub fn kind_of_code(code: u8) -> Option<ValueKind>
+    ensures kind { IfSome result (AllHaveKind code) }
+    ensures primitive { IsSome result ↔ IsPrimitive code }
+{
+    match EncodingCodes::try_from(code) {
+        Ok(name) => kind_of_name(name),
+        Err(_) => None,
+    }
+}
+
+fn kind_of_name(name: EncodingCodes) -> Option<ValueKind>
+    ensures { result ≡ kind_named name }
+{
+    let kind = match name {
+        EncodingCodes::DescribedType => return None,
+        EncodingCodes::Null => ValueKind::Null,
+        EncodingCodes::BooleanTrue | EncodingCodes::BooleanFalse | EncodingCodes::Boolean => {
+            ValueKind::Bool
+        }
+        EncodingCodes::Ubyte => ValueKind::Ubyte,
+        EncodingCodes::Ushort => ValueKind::Ushort,
+        EncodingCodes::Uint0 | EncodingCodes::SmallUint | EncodingCodes::Uint => ValueKind::Uint,
+        EncodingCodes::Ulong0 | EncodingCodes::SmallUlong | EncodingCodes::Ulong => {
+            ValueKind::Ulong
+        }
+        EncodingCodes::Byte => ValueKind::Byte,
+        EncodingCodes::Short => ValueKind::Short,
+        EncodingCodes::SmallInt | EncodingCodes::Int => ValueKind::Int,
+        EncodingCodes::SmallLong | EncodingCodes::Long => ValueKind::Long,
+        EncodingCodes::Float => ValueKind::Float,
+        EncodingCodes::Double => ValueKind::Double,
+        EncodingCodes::Decimal32 => ValueKind::Decimal32,
+        EncodingCodes::Decimal64 => ValueKind::Decimal64,
+        EncodingCodes::Decimal128 => ValueKind::Decimal128,
+        EncodingCodes::Char => ValueKind::Char,
+        EncodingCodes::Timestamp => ValueKind::Timestamp,
+        EncodingCodes::Uuid => ValueKind::Uuid,
+        EncodingCodes::Vbin8 | EncodingCodes::Vbin32 => ValueKind::Binary,
+        EncodingCodes::Str8 | EncodingCodes::Str32 => ValueKind::String,
+        EncodingCodes::Sym8 | EncodingCodes::Sym32 => ValueKind::Symbol,
+        EncodingCodes::List0 | EncodingCodes::List8 | EncodingCodes::List32 => ValueKind::List,
+        EncodingCodes::Map8 | EncodingCodes::Map32 => ValueKind::Map,
+        EncodingCodes::Array8 | EncodingCodes::Array32 => ValueKind::Array,
     };
     Some(kind)
 }

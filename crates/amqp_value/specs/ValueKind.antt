@@ -5,7 +5,7 @@ use Rattle.amqp_value.specs.declared.accessors.kind.ValueKind.TheVariants as typ
 use Rattle.amqp_value.specs.declared.value.Value.{Value, out-Value}
 use Rattle.amqp_value.specs.declared.value.Value.TheOpen.{Value-F}
 
-abbrev kind_level : Value-F Value → ValueKind
+abbrev pub kind_level : Value-F Value → ValueKind
 kind_level (Value-F.Described x) = type.Described
 kind_level Value-F.Null = type.Null
 kind_level (Value-F.Bool x) = type.Bool
