@@ -43,7 +43,16 @@ fn start<R: Input + Print + Eprint + AllocGlobal + Files + Env + Clock>(
     terminals: Terminals,
 ) -> io::Result<u8> {
     let alloc = rt.alloc();
-    let words: Vec<String> = std::env::args(rt)?.collect(alloc)?;
+    let words: Vec<String> = match std::env::args(rt) {
+        Ok(words) => words.collect(alloc)?,
+        Err(error) if error.kind() == io::ErrorKind::InvalidData => {
+            let _ = eprintln!(rt;
+                "amqpdump: an argument is not UTF-8 (read such a file by < FILE)"
+            );
+            return Ok(2);
+        }
+        Err(error) => return Err(error),
+    };
     let Ok(command) = command(alloc) else {
         return Ok(out_of_memory(rt));
     };
