@@ -1,21 +1,23 @@
 -- Messages that are read and written: their parts as sections (AMQP 1.0 part 3, section 3.2).
-use Rattle.std.specs.Prelude.{◌≡◌, ◌⊎◌, ℕ, List, [], ◌∷◌, ◌++◌, Option, Some, None, Err}
+use Rattle.std.specs.Prelude.{◌≡◌, ◌<◌, ◌⊎◌, ℕ, List, [], ◌∷◌, ◌++◌, length, Option, Some, None, Err}
 use Rattle.amqp_data.specs.Items.{transparent_items}
 use Rattle.amqp_data.specs.declared.error.Error.{Error}
+use Rattle.amqp_data.specs.declared.error.Error.TheVariants.{OutOfMemory}
 use Rattle.amqp_ser.specs.Encoding.{encoding}
 use Rattle.amqp_ser.specs.SizeAndBytes.{AreBytesOf}
 use Rattle.amqp_ser.specs.Tree.{Tree}
 use Rattle.amqp_from_value.specs.Limited.{ReadsAllowed, limits_for}
+use Rattle.amqp_from_value.specs.LocatedErrors.{IsLocatedWithin, error_in}
 use Rattle.amqp_from_value.specs.declared.limited.Limits.{Limits}
 use Rattle.amqp_from_value.specs.declared.located.SliceError.{SliceError}
-use Rattle.amqp_messaging.specs.Parts.{RefusesParts}
+use Rattle.amqp_messaging.specs.Sections.{IsSection}
 use Rattle.amqp_messaging.specs.declared.bodies.AmqpSequence.{AmqpSequence}
 use Rattle.amqp_messaging.specs.declared.bodies.AmqpValue.{AmqpValue}
 use Rattle.amqp_messaging.specs.declared.bodies.Data.{Data}
 use Rattle.amqp_messaging.specs.declared.message.content.Body.{Body}
 use Rattle.amqp_messaging.specs.declared.message.content.Body.TheVariants as body
-use Rattle.amqp_messaging.specs.declared.message.error.MessageError.{MessageError}
-use Rattle.amqp_messaging.specs.declared.message.error.MessageError.TheVariants as error
+use Rattle.amqp_messaging.specs.declared.message.kind.SectionKind.{SectionKind}
+use Rattle.amqp_messaging.specs.declared.message.kind.SectionKind.TheVariants as kind
 
 -- The bytes are read as the section, within these limits, or without any within those for its length.
 abbrev pub ReadsWithin : {T : Type 0} → Option Limits → (Tree → T → Type 0) → List ℕ → T → Type 0
@@ -38,13 +40,25 @@ ReadsBody limits D S V s (body.Data v) = ReadsAll limits D s (transparent_items 
 ReadsBody limits D S V s (body.Sequence v) = ReadsAll limits S s (transparent_items v)
 ReadsBody limits D S V s (body.Value x) = ReadsWithin limits V s x
 
--- A section cannot be read.
-abbrev pub IsUnread : MessageError → Type 0
-IsUnread e = (f : SliceError) × (e ≡ error.Section f)
+-- Why the bytes of a section, of which there are some, are not read: an allocation failed, or nothing
+-- is read from them, and the error has the place.
+abbrev pub IsUnread : {T : Type 0} → Option Limits → (Tree → T → Type 0) → List ℕ → SliceError → Type 0
+IsUnread {T} limits R s f =
+    (0 < length s) × ((error_in f ≡ OutOfMemory)
+    ⊎ (IsLocatedWithin (limits_for limits s) s f × ((x : T) → ¬ ReadsWithin limits R s x)))
 
--- Why the bytes are not read as a message: they have not its parts, or one cannot be read.
-abbrev pub RefusesMessage : List ℕ → MessageError → Type 0
-RefusesMessage s e = RefusesParts s e ⊎ IsUnread e
+-- Why the bytes are not read as sections of this kind: one of them is not read, and those before it are.
+abbrev pub IsUnreadAmong : {T : Type 0} → Option Limits → (Tree → T → Type 0) → SectionKind → List ℕ → SliceError → Type 0
+IsUnreadAmong {T} limits R k s f =
+    (front section rest : List ℕ) × (s ≡ front ++ (section ++ rest)) × ((xs : List T) × ReadsAll limits R front xs)
+    × IsSection k section × IsUnread limits R section f
+
+-- Why a body of this kind is not read, by how each kind of section is read.
+abbrev pub IsUnreadBody : Option Limits → (Tree → Data → Type 0) → (Tree → AmqpSequence → Type 0) → (Tree → AmqpValue → Type 0) → SectionKind → List ℕ → SliceError → Type 0
+IsUnreadBody limits D S V kind.Data s f = IsUnreadAmong limits D kind.Data s f
+IsUnreadBody limits D S V kind.AmqpSequence s f = IsUnreadAmong limits S kind.AmqpSequence s f
+IsUnreadBody limits D S V kind.AmqpValue s f = IsUnread limits V s f
+IsUnreadBody limits D S V k s f = ⊥
 
 -- The bytes are these with the encoding of the tree after them.
 abbrev pub PutsTree : Option Tree → List ℕ → List ℕ → Type 0

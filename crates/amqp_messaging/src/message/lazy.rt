@@ -3,9 +3,10 @@
 ghost use Rattle.std.specs.Prelude.{◌≡◌, ◌⊎◌, ◌++◌, [], List, ℕ, None, IfOk, IfErr, IfSome};
 ghost use Rattle.amqp_data.specs.declared.error.Error.{Error};
 ghost use Rattle.amqp_data.specs.declared.error.Error.TheVariants.{OutOfMemory};
-ghost use Rattle.amqp_messaging.specs.Messages.{PutsFront, ReadsPart, RefusesFront, RefusesMessage};
-ghost use Rattle.amqp_messaging.specs.Parts.{IsAround, IsBare};
-ghost use Rattle.amqp_messaging.specs.declared.message.error.MessageError.TheVariants.{Value};
+ghost use Rattle.amqp_from_value.specs.declared.located.SliceError.{SliceError};
+ghost use Rattle.amqp_messaging.specs.Messages.{IsUnread, PutsFront, ReadsPart, RefusesFront};
+ghost use Rattle.amqp_messaging.specs.Parts.{IsAround, IsBare, RefusesParts};
+ghost use Rattle.amqp_messaging.specs.declared.message.error.MessageError.TheVariants.{Section, Value};
 ghost use Rattle.amqp_messaging.specs.declared.message.kind.SectionKind.{SectionKind};
 
 use crate::annotations::{ApplicationProperties, DeliveryAnnotations, MessageAnnotations};
@@ -71,7 +72,16 @@ impl<'a> LazyMessage<'a> {
             × ReadsPart None ⟦<Properties as Deserialize>⟧.reads properties m.properties
             × ReadsPart None ⟦<ApplicationProperties as Deserialize>⟧.reads application
             m.application_properties) }
-        ensures refused { IfErr result (RefusesMessage bytes.now) }
+        ensures refused { IfErr result (λ e. RefusesParts bytes.now e ⊎ ((kind : SectionKind)
+            × (header delivery message properties application body bare footer : List ℕ)
+            × IsAround header delivery message bare footer bytes.now
+            × IsBare kind properties application body bare
+            × (f : SliceError) × (e ≡ Section f)
+            × (IsUnread None ⟦<Header as Deserialize>⟧.reads header f
+            ⊎ IsUnread None ⟦<DeliveryAnnotations as Deserialize>⟧.reads delivery f
+            ⊎ IsUnread None ⟦<MessageAnnotations as Deserialize>⟧.reads message f
+            ⊎ IsUnread None ⟦<Properties as Deserialize>⟧.reads properties f
+            ⊎ IsUnread None ⟦<ApplicationProperties as Deserialize>⟧.reads application f))) }
     {
         LazyMessage::from_slice_with(alloc, bytes, None)
     }
@@ -102,7 +112,16 @@ impl<'a> LazyMessage<'a> {
             × ReadsPart limits ⟦<Properties as Deserialize>⟧.reads properties m.properties
             × ReadsPart limits ⟦<ApplicationProperties as Deserialize>⟧.reads application
             m.application_properties) }
-        ensures refused { IfErr result (RefusesMessage bytes.now) }
+        ensures refused { IfErr result (λ e. RefusesParts bytes.now e ⊎ ((kind : SectionKind)
+            × (header delivery message properties application body bare footer : List ℕ)
+            × IsAround header delivery message bare footer bytes.now
+            × IsBare kind properties application body bare
+            × (f : SliceError) × (e ≡ Section f)
+            × (IsUnread limits ⟦<Header as Deserialize>⟧.reads header f
+            ⊎ IsUnread limits ⟦<DeliveryAnnotations as Deserialize>⟧.reads delivery f
+            ⊎ IsUnread limits ⟦<MessageAnnotations as Deserialize>⟧.reads message f
+            ⊎ IsUnread limits ⟦<Properties as Deserialize>⟧.reads properties f
+            ⊎ IsUnread limits ⟦<ApplicationProperties as Deserialize>⟧.reads application f))) }
     {
         let Some(parts) = cut(bytes) else {
             return Err(reason(bytes));

@@ -3,6 +3,7 @@
 ghost use Rattle.std.specs.Prelude.{◌≡◌, ◌++◌, List, ℕ, IfSome};
 ghost use Rattle.amqp_messaging.specs.Parts.{AreAll, IsAround, IsBare, IsBody, IsPart};
 ghost use Rattle.amqp_messaging.specs.Parts.{RefusesParts};
+ghost use Rattle.amqp_messaging.specs.Sections.{IsSection};
 
 use crate::message::encoded::check_order;
 use crate::message::error::MessageError;
@@ -110,7 +111,9 @@ fn take_all(kind: SectionKind, bytes: &[u8]) -> (&[u8], &[u8])
 
 /// Splits off the section of this kind at the start of the bytes, or nothing if there is none.
 pub(crate) fn take_part(kind: SectionKind, bytes: &[u8]) -> (&[u8], &[u8])
-    ensures { IsPart kind result.0.now × (bytes.now ≡ result.0.now ++ result.1.now) }
+    ensures part { IsPart kind result.0.now × (bytes.now ≡ result.0.now ++ result.1.now) }
+    ensures first { (section rest : List ℕ) → IsSection kind section →
+        bytes.now ≡ section ++ rest → result.0.now ≡ section }
 {
     if let Some(len) = frame_len(bytes) {
         let (section, rest) = bytes.split_at(len);

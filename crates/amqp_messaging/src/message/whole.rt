@@ -2,12 +2,13 @@
 
 ghost use Rattle.std.specs.Prelude.{◌≡◌, ◌⊎◌, ◌++◌, [], List, ℕ, None, IfOk, IfErr, IfSome};
 ghost use Rattle.amqp_data.specs.declared.error.Error.{Error};
+ghost use Rattle.amqp_from_value.specs.declared.located.SliceError.{SliceError};
 ghost use Rattle.amqp_messaging.specs.Messages.{PutsBare, PutsFront, PutsSection, ReadsBody};
 ghost use Rattle.amqp_messaging.specs.Messages.{ReadsPart};
-ghost use Rattle.amqp_messaging.specs.Messages.{RefusesBare, RefusesFront, RefusesMessage};
+ghost use Rattle.amqp_messaging.specs.Messages.{IsUnread, IsUnreadBody, RefusesBare, RefusesFront};
 ghost use Rattle.amqp_messaging.specs.Messages.{RefusesSection};
-ghost use Rattle.amqp_messaging.specs.Parts.{IsAround, IsBare};
-ghost use Rattle.amqp_messaging.specs.declared.message.error.MessageError.TheVariants.{Value};
+ghost use Rattle.amqp_messaging.specs.Parts.{IsAround, IsBare, RefusesParts};
+ghost use Rattle.amqp_messaging.specs.declared.message.error.MessageError.TheVariants.{Section, Value};
 ghost use Rattle.amqp_messaging.specs.declared.message.kind.SectionKind.{SectionKind};
 
 use crate::annotations::{ApplicationProperties, DeliveryAnnotations, Footer, MessageAnnotations};
@@ -82,7 +83,19 @@ impl Message {
             × ReadsBody None ⟦<Data as Deserialize>⟧.reads ⟦<AmqpSequence as Deserialize>⟧.reads
             ⟦<AmqpValue as Deserialize>⟧.reads body m.body
             × ReadsPart None ⟦<Footer as Deserialize>⟧.reads footer m.footer) }
-        ensures refused { IfErr result (RefusesMessage bytes.now) }
+        ensures refused { IfErr result (λ e. RefusesParts bytes.now e ⊎ ((kind : SectionKind)
+            × (header delivery message properties application body bare footer : List ℕ)
+            × IsAround header delivery message bare footer bytes.now
+            × IsBare kind properties application body bare
+            × (f : SliceError) × (e ≡ Section f)
+            × (IsUnread None ⟦<Header as Deserialize>⟧.reads header f
+            ⊎ IsUnread None ⟦<DeliveryAnnotations as Deserialize>⟧.reads delivery f
+            ⊎ IsUnread None ⟦<MessageAnnotations as Deserialize>⟧.reads message f
+            ⊎ IsUnread None ⟦<Properties as Deserialize>⟧.reads properties f
+            ⊎ IsUnread None ⟦<ApplicationProperties as Deserialize>⟧.reads application f
+            ⊎ IsUnreadBody None ⟦<Data as Deserialize>⟧.reads ⟦<AmqpSequence as Deserialize>⟧.reads
+            ⟦<AmqpValue as Deserialize>⟧.reads kind body f
+            ⊎ IsUnread None ⟦<Footer as Deserialize>⟧.reads footer f))) }
     {
         Message::from_slice_with(alloc, bytes, None)
     }
@@ -115,7 +128,19 @@ impl Message {
             × ReadsBody limits ⟦<Data as Deserialize>⟧.reads ⟦<AmqpSequence as Deserialize>⟧.reads
             ⟦<AmqpValue as Deserialize>⟧.reads body m.body
             × ReadsPart limits ⟦<Footer as Deserialize>⟧.reads footer m.footer) }
-        ensures refused { IfErr result (RefusesMessage bytes.now) }
+        ensures refused { IfErr result (λ e. RefusesParts bytes.now e ⊎ ((kind : SectionKind)
+            × (header delivery message properties application body bare footer : List ℕ)
+            × IsAround header delivery message bare footer bytes.now
+            × IsBare kind properties application body bare
+            × (f : SliceError) × (e ≡ Section f)
+            × (IsUnread limits ⟦<Header as Deserialize>⟧.reads header f
+            ⊎ IsUnread limits ⟦<DeliveryAnnotations as Deserialize>⟧.reads delivery f
+            ⊎ IsUnread limits ⟦<MessageAnnotations as Deserialize>⟧.reads message f
+            ⊎ IsUnread limits ⟦<Properties as Deserialize>⟧.reads properties f
+            ⊎ IsUnread limits ⟦<ApplicationProperties as Deserialize>⟧.reads application f
+            ⊎ IsUnreadBody limits ⟦<Data as Deserialize>⟧.reads ⟦<AmqpSequence as Deserialize>⟧.reads
+            ⟦<AmqpValue as Deserialize>⟧.reads kind body f
+            ⊎ IsUnread limits ⟦<Footer as Deserialize>⟧.reads footer f))) }
     {
         let Some(parts) = cut(bytes) else {
             return Err(reason(bytes));

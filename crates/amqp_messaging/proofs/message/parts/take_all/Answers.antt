@@ -8,4 +8,4 @@ loop-kind-init c = ([], AreAll.none c.args.kind, refl)
 
 pub loop-kind-preserved : goal.loop-kind-preserved
 loop-kind-preserved c =
-    add_part c.args.kind c.args.bytes.now c.loop-kind.rest.now _ _ c.take_part.ensures.0 c.take_part.ensures.1 c.loop-kind.invariant
+    add_part c.args.kind c.args.bytes.now c.loop-kind.rest.now _ _ c.take_part.ensures.part.0 c.take_part.ensures.part.1 c.loop-kind.invariant
