@@ -5,11 +5,15 @@ use crate::item::{Item, ItemKind};
 use crate::kinds::kind_of_code;
 use crate::level::{Level, LevelKind};
 use crate::line::{Line, Part};
-use crate::names;
-use crate::texts::{first_payload, has_unprintable, push_value, value_of};
+use crate::names::{self, Field};
+use crate::path::field_of;
+use crate::texts::{first_payload, is_printable, push_value, value_of};
 use amqp_value::{Value, ValueKind};
 use std::alloc::Global;
 use std::num::{f32_from_bits_with_nan, f64_from_bits_with_nan};
+
+// The most bytes of a payload that are shown as text.
+const HEAD: usize = 64;
 
 /// Appends what is said of an item with these bytes, where `levels` are open after it.
 pub(crate) fn describe(
@@ -28,7 +32,8 @@ pub(crate) fn describe(
         ItemKind::Repeats(count) => describe_repeated(line, count, levels),
         ItemKind::Scalar(kind, code) => {
             let value = value_of(alloc, bytes, code, is_in_array(levels))?;
-            describe_value(line, kind, &value)
+            describe_value(line, kind, &value)?;
+            describe_field(line, levels.last(), &value)
         }
         ItemKind::Long(kind, len) => {
             let value = first_payload(alloc, kind, levels, bytes)?;
@@ -39,9 +44,11 @@ pub(crate) fn describe(
         ItemKind::Protocol => describe_protocol(line, bytes),
         ItemKind::Frame(kind, channel) => describe_frame(line, kind, channel, bytes),
         ItemKind::Extended => line.word(Part::Type, "extended header"),
-        ItemKind::Raw => {
+        ItemKind::Raw(len) => {
             line.word(Part::Type, "payload")?;
-            push_printable(line, bytes)
+            write!(line.text, " {len} bytes")?;
+            let (head, _) = bytes.split_at(bytes.len().min(HEAD));
+            describe_printable(line, head)
         }
     }
 }
@@ -145,7 +152,7 @@ fn describe_value(line: &mut Line, kind: ValueKind, value: &Value) -> Result<(),
     push_value(&mut line.text, &mut line.value_text, value)?;
     line.end()?;
     match value {
-        Value::Binary(bytes) => push_printable(line, bytes.as_inner())?,
+        Value::Binary(bytes) => describe_printable(line, bytes.as_inner())?,
         Value::Float(bits) => {
             let number = f32_from_bits_with_nan(*bits.as_inner());
             write!(line.text, " {number}")?;
@@ -159,13 +166,45 @@ fn describe_value(line: &mut Line, kind: ValueKind, value: &Value) -> Result<(),
     Ok(())
 }
 
-// Appends bytes as text, if they are printable characters of ASCII.
-fn push_printable(line: &mut Line, bytes: &[u8]) -> Result<(), Fault> {
-    if has_unprintable(bytes) || bytes.is_empty() {
+// Appends the word for the value of a field, or what is meant if it is absent.
+fn describe_field(line: &mut Line, level: Option<&Level>, value: &Value) -> Result<(), Fault> {
+    let Some(field) = level.and_then(field_of) else {
         return Ok(());
+    };
+    if let Some(word) = word_of(field, value) {
+        return line.word(Part::Name, word);
     }
+    if matches!(value, Value::Null) && !field.default.is_empty() {
+        line.word(Part::Name, "default")?;
+        line.word(Part::Name, field.default)?;
+    }
+    Ok(())
+}
+
+/// Returns the word for the value of a field, if it has one.
+pub(crate) fn word_of(field: &Field, value: &Value) -> Option<&'static str> {
+    let number = match value {
+        Value::Bool(is_true) => usize::from(*is_true),
+        Value::Ubyte(number) => usize::from(*number),
+        Value::Uint(number) => *number as usize,
+        _ => return None,
+    };
+    field.words.get(number).copied()
+}
+
+// Appends bytes as text, if they are printable characters of ASCII.
+fn describe_printable(line: &mut Line, bytes: &[u8]) -> Result<(), Fault> {
+    if is_printable(bytes) {
+        line.space()?;
+        push_printable(line, bytes)?;
+    }
+    Ok(())
+}
+
+/// Appends printable bytes as text.
+pub(crate) fn push_printable(line: &mut Line, bytes: &[u8]) -> Result<(), Fault> {
     if let Ok(text) = std::str::from_utf8(bytes) {
-        line.text.push_str(" \"")?;
+        line.text.push_str("\"")?;
         line.text.push_str(text)?;
         line.text.push_str("\"")?;
     }

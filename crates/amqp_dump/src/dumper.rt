@@ -4,6 +4,7 @@ use crate::fault::{Fault, Found};
 use crate::foreign::foreign_fault;
 use crate::item::{Item, ItemKind};
 use crate::json::{Json, push_json_fault};
+use crate::key::Key;
 use crate::level::{Level, LevelKind};
 use crate::line::Line;
 use crate::marks::Marks;
@@ -13,7 +14,7 @@ use crate::scanner::Scanner;
 use crate::select::Selector;
 use crate::source::Taking;
 use crate::summary::Summary;
-use crate::text::push_text;
+use crate::text::TextLine;
 use crate::tree::{push_fault, push_line};
 use std::alloc::Global;
 use std::io::Write;
@@ -25,6 +26,8 @@ pub struct Report {
     pub faults: u64,
     /// The first fault.
     pub first: Option<Found>,
+    /// The number of values that were selected.
+    pub selected: u64,
     /// The counts.
     pub summary: Summary,
 }
@@ -37,10 +40,13 @@ struct Dumper {
     scanner: Scanner,
     marks: Marks,
     json: Json,
+    text: TextLine,
     line: Line,
     masks: Masks,
     // The depth of the value that is selected, if one is.
     selected: Option<usize>,
+    // The key of a map that came last, if it is a text.
+    key: Key,
     // Whether the rest of the frame has no JSON.
     is_muted: bool,
     report: Report,
@@ -80,13 +86,16 @@ pub fn run<S: Taking, W: Write>(
         scanner: Scanner::new(alloc, options.frames, piece),
         marks: Marks::new(alloc),
         json: Json::new(alloc),
+        text: TextLine::new(alloc, options.nulls),
         line: Line::new(alloc, options.color),
         masks: Masks::new(alloc),
         selected: None,
+        key: Key::new(alloc),
         is_muted: false,
         report: Report {
             faults: 0,
             first: None,
+            selected: 0,
             summary: Summary::new(alloc)?,
         },
     };
@@ -164,7 +173,7 @@ impl Dumper {
         if self.options.form == OutputFormat::Tree {
             self.marks.add(item, levels, bytes)?;
         }
-        if !self.is_selected(item, selector)? {
+        if !self.is_selected(item, bytes, selector)? {
             return Ok(());
         }
         let levels = self.scanner.levels();
@@ -181,15 +190,10 @@ impl Dumper {
                 self.marks.found(),
                 &self.options,
             )?,
-            OutputFormat::Text => push_text(
-                self.alloc,
-                &mut self.line,
-                item,
-                base,
-                levels,
-                bytes,
-                in_payload,
-            )?,
+            OutputFormat::Text => {
+                let line = &mut self.line;
+                self.text.add(line, item, base, levels, bytes, in_payload)?;
+            }
             OutputFormat::Json if self.is_muted => {
                 self.is_muted = item.kind != ItemKind::Closes(LevelKind::Frame);
             }
@@ -205,7 +209,12 @@ impl Dumper {
     }
 
     // Whether the item is in a value that is selected.
-    fn is_selected(&mut self, item: Item, selector: Option<&Selector>) -> Result<bool, Fault> {
+    fn is_selected(
+        &mut self,
+        item: Item,
+        bytes: &[u8],
+        selector: Option<&Selector>,
+    ) -> Result<bool, Fault> {
         let Some(selector) = selector else {
             return Ok(true);
         };
@@ -213,10 +222,11 @@ impl Dumper {
         if self.selected.is_some() {
             return Ok(true);
         }
+        let levels = self.scanner.levels();
         if !item.kind.begins_value() {
+            self.key.add(self.alloc, item, levels, bytes)?;
             return Ok(false);
         }
-        let levels = self.scanner.levels();
         let (outer, _) = levels.split_at(item.depth.min(levels.len()));
         let descriptor = match item.kind {
             ItemKind::Described(code) => code,
@@ -224,9 +234,12 @@ impl Dumper {
         };
         let roots = self.scanner.roots();
         let masks = &mut self.masks;
-        let is_selected = selector.selects(self.alloc, masks, roots, outer, descriptor)?;
+        let key = self.key.text();
+        let is_selected = selector.selects(self.alloc, masks, roots, outer, descriptor, key)?;
+        self.key.add(self.alloc, item, levels, bytes)?;
         if is_selected {
             self.selected = Some(item.depth);
+            self.report.selected = self.report.selected.saturating_add(1);
         }
         Ok(is_selected)
     }
@@ -268,7 +281,10 @@ impl Dumper {
                     &self.options,
                 )
             }
-            OutputFormat::Text => self.line.push("\n"),
+            OutputFormat::Text => {
+                self.text.clear();
+                self.line.push("\n")
+            }
             OutputFormat::Json => {
                 self.json.clear();
                 self.is_muted = true;

@@ -11,8 +11,11 @@ use crate::scanner::Scanner;
 use crate::source::{Taking, take_bytes};
 use amqp_value::ValueKind;
 
-// The most bytes of a frame on one line that are not shown as values.
-const RAW: u64 = 16;
+// The most bytes of an extended header in one item.
+const EXTENDED: u64 = 16;
+
+// The most bytes in one item that are not shown as values.
+const RAW: u64 = 4096;
 
 const TRANSFER: u64 = 0x14;
 
@@ -69,23 +72,31 @@ impl Scanner {
         if left == 0 {
             return Ok(self.close_frame(level));
         }
-        let len = left.min(RAW);
         if self.extended > 0 {
-            let len = len.min(u64::from(self.extended));
+            let len = left.min(EXTENDED).min(u64::from(self.extended));
             self.extended = self.extended.saturating_sub(len as u32);
             take_bytes(source, len as usize)?;
             return Ok(ItemKind::Extended);
         }
-        if self.skipping || level.code > 1 {
-            take_bytes(source, len as usize)?;
-            return Ok(ItemKind::Raw);
-        }
-        if level.index > 0 && !self.has_sections(source, level)? {
-            self.skipping = true;
-            take_bytes(source, len as usize)?;
-            return Ok(ItemKind::Raw);
+        let has_values = !self.skipping
+            && level.code <= 1
+            && (level.index == 0 || self.has_sections(source, level)?);
+        if !has_values {
+            return self.take_raw(source, left);
         }
         self.take_value(source)
+    }
+
+    // Takes some of the bytes that are left of a frame.
+    fn take_raw<S: Taking>(&mut self, source: &mut S, left: u64) -> Result<ItemKind, Fault>
+        ensures kept { Stays (S.held source.old) (S.left source.old) (S.held source.new)
+            (S.left source.new) }
+    {
+        let is_first = !self.in_raw;
+        self.in_raw = true;
+        self.skipping = true;
+        take_bytes(source, left.min(RAW) as usize)?;
+        Ok(ItemKind::Raw(if is_first { left } else { 0 }))
     }
 
     // Whether the payload of a frame is the sections of a message.
@@ -103,6 +114,7 @@ impl Scanner {
             self.continued = self.more;
         }
         self.skipping = false;
+        self.in_raw = false;
         self.pop();
         ItemKind::Closes(LevelKind::Frame)
     }
@@ -116,6 +128,7 @@ impl Scanner {
         self.levels.truncate(1);
         self.leave_payload();
         self.skipping = true;
+        self.in_raw = false;
         self.extended = 0;
         in_frame
     }

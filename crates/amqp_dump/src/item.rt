@@ -45,8 +45,9 @@ pub enum ItemKind {
     Frame(u8, u16),
     /// Bytes of a frame that are no values: its extended header.
     Extended,
-    /// Bytes of a frame that are not shown as values.
-    Raw,
+    /// Bytes of a frame that are not shown as values: how many there are if they are the first
+    /// ones, or 0.
+    Raw(u64),
 }
 
 impl ItemKind {
@@ -77,15 +78,6 @@ impl Item {
             ItemKind::Scalar(_, _) | ItemKind::Repeats(_) | ItemKind::Closes(_) => true,
             ItemKind::Long(_, _) | ItemKind::More(_, _) => !in_payload,
             _ => false,
-        }
-    }
-
-    /// Returns whether a value of the depth `base` ends with the item, or an item that is no value.
-    pub fn ends_line(self, base: usize, in_payload: bool) -> bool {
-        match self.kind {
-            ItemKind::Protocol | ItemKind::Frame(_, _) | ItemKind::Raw | ItemKind::Extended => true,
-            ItemKind::Closes(LevelKind::Frame) => false,
-            _ => self.ends_value(in_payload) && self.depth == base,
         }
     }
 }

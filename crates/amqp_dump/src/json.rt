@@ -136,7 +136,11 @@ impl Json {
                 push_frame(text, kind, channel, bytes)?;
             }
             ItemKind::Extended => self.add_bytes("extended-header", bytes)?,
-            ItemKind::Raw => self.add_bytes("payload", bytes)?,
+            ItemKind::Raw(_) => {
+                for part in bytes.chunks(16) {
+                    self.add_bytes("payload", part)?;
+                }
+            }
             ItemKind::End | ItemKind::Closes(_) => {}
         }
         Ok(())

@@ -87,8 +87,8 @@ pub(crate) fn push_escaped(text: &mut String, part: &str) -> Result<(), Fault> {
     Ok(())
 }
 
-// Whether a byte is a quote or a backslash.
-fn has_escaped(bytes: &[u8]) -> bool {
+/// Whether a byte is a quote or a backslash.
+pub(crate) fn has_escaped(bytes: &[u8]) -> bool {
     let mut found = false;
     for byte in bytes {
         found = found | (*byte == b'"') | (*byte == b'\\');

@@ -15,6 +15,7 @@ mod hex_reader;
 mod item;
 mod json;
 mod json_scalar;
+mod key;
 mod kinds;
 mod level;
 mod line;

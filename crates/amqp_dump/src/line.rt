@@ -112,6 +112,16 @@ impl Line {
     }
 }
 
+/// Appends an offset, in eight digits or more.
+pub(crate) fn push_offset(line: &mut Line, at: u64) -> Result<(), Fault> {
+    line.paint(Part::Offset)?;
+    match u32::try_from(at) {
+        Ok(at) => push_hex(&mut line.text, &at.to_be_bytes())?,
+        Err(_) => write!(line.text, "{at:x}")?,
+    }
+    line.end()
+}
+
 /// Appends bytes as two lower-case hexadecimal digits each.
 pub(crate) fn push_hex(text: &mut String, bytes: &[u8]) -> Result<(), Fault> {
     for byte in bytes {

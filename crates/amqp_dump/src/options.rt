@@ -5,7 +5,7 @@
 pub enum OutputFormat {
     /// A line for each node.
     Tree,
-    /// A line for each encoded value, as `Display` writes it.
+    /// A line for each value or frame, with the names of fields.
     Text,
     /// A JSON object for each value.
     Json,
@@ -30,6 +30,8 @@ pub struct Options {
     pub most_values: u64,
     /// Whether the writer is flushed after each of them.
     pub unbuffered: bool,
+    /// Whether fields that are absent are shown.
+    pub nulls: bool,
 }
 
 impl Options {
@@ -43,6 +45,7 @@ impl Options {
             most_bytes: 64,
             column: 12,
             most_values: u64::MAX,
+            nulls: false,
             unbuffered: false,
         }
     }

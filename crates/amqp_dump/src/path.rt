@@ -8,9 +8,9 @@ use std::alloc::Global;
 
 /// One step from a value to a value inside it.
 #[derive(Clone, Copy, Debug, PartialEq, Eq)]
-pub(crate) enum Step {
-    /// The value with this index, and the name of its field if it has one.
-    Value(u64, Option<&'static str>),
+pub(crate) enum Step<'a> {
+    /// The value with this index, and the name of its field or its key if it has one.
+    Value(u64, Option<&'a str>),
     /// The value that has this descriptor.
     Described(u64),
 }
@@ -25,7 +25,7 @@ pub(crate) fn field_of(level: &Level) -> Option<&'static Field> {
 }
 
 /// Returns the step into the level.
-pub(crate) fn step_of(level: &Level) -> Option<Step> {
+pub(crate) fn step_of(level: &Level) -> Option<Step<'static>> {
     let index = u64::from(level.index).checked_sub(1);
     match level.kind {
         LevelKind::Described => Some(Step::Described(level.descriptor?)),
@@ -35,7 +35,7 @@ pub(crate) fn step_of(level: &Level) -> Option<Step> {
 }
 
 // Returns the steps to the value that was begun last, inside these levels.
-fn steps_to(alloc: Global, roots: u64, levels: &[Level]) -> Result<Vec<Step>, Fault> {
+fn steps_to(alloc: Global, roots: u64, levels: &[Level]) -> Result<Vec<Step<'static>>, Fault> {
     let mut steps = Vec::new(alloc);
     steps.push(Step::Value(roots.saturating_sub(1), None))?;
     for level in levels {

@@ -45,6 +45,8 @@ pub struct Scanner {
     pub(crate) extended: u32,
     // Whether the rest of the frame is not read as values.
     pub(crate) skipping: bool,
+    // Whether some of it was taken so.
+    pub(crate) in_raw: bool,
     // Whether the transfer has more frames, and the one before it had.
     pub(crate) more: bool,
     pub(crate) continued: bool,
@@ -68,6 +70,7 @@ impl Scanner {
             shown: 0,
             extended: 0,
             skipping: false,
+            in_raw: false,
             more: false,
             continued: false,
             bad: 0,

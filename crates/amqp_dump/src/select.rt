@@ -1,17 +1,19 @@
 //! Selects the values of which something is shown.
 
 use crate::fault::Fault;
-use crate::level::Level;
+use crate::level::{Level, LevelKind};
 use crate::masks::{Masks, after};
 use crate::names;
 use crate::path::{Step, step_of};
 use crate::scanner::MAX_DEPTH;
+use amqp_value::ValueKind;
 use std::alloc::Global;
 
 /// A path that selects values.
 ///
 /// After a `/` an index selects a value by its place, and a descriptor (`0x73` or the name of its
-/// type) the value that has it; after a `.` a name selects a field. A path that begins with `/`
+/// type) the value that has it; after a `.` a name selects a field, or the value of the key in a
+/// map. A path that begins with `/`
 /// begins at the input's values, any other at a descriptor anywhere.
 ///
 /// # Example
@@ -33,7 +35,7 @@ enum Word {
 }
 
 impl Selector {
-    /// Reads a path. Returns `None` if it is none.
+    /// Reads a path. Returns `None` if it is none, or names a field that a type does not have.
     pub fn parse(alloc: Global, path: &str) -> Result<Option<Selector>, Fault> {
         let mut words = Vec::new(alloc);
         let is_anchored = path.starts_with('/');
@@ -44,6 +46,9 @@ impl Selector {
                 let Some(word) = word_of(alloc, name, is_first)? else {
                     return Ok(None);
                 };
+                if !can_follow(words.last(), &word) {
+                    return Ok(None);
+                }
                 words.push(word)?;
                 is_first = false;
             }
@@ -60,6 +65,7 @@ impl Selector {
         roots: u64,
         outer: &[Level],
         descriptor: Option<u64>,
+        key: Option<&str>,
     ) -> Result<bool, Fault> {
         if self.words.len() > MAX_DEPTH + 1 {
             return Ok(false);
@@ -74,7 +80,7 @@ impl Selector {
         }
         let (_, levels) = outer.split_at(masks.len().saturating_sub(1).min(outer.len()));
         for level in levels {
-            let mask = self.mask_after(alloc, masks.last(), step_of(level))?;
+            let mask = self.mask_after(alloc, masks.last(), step_in(level, key))?;
             masks.push(mask)?;
         }
         let Some(code) = descriptor else {
@@ -89,7 +95,7 @@ impl Selector {
         &self,
         alloc: Global,
         before: &[bool],
-        step: Option<Step>,
+        step: Option<Step<'_>>,
     ) -> Result<Vec<bool>, Fault> {
         let mut matched = Vec::new(alloc);
         let Some(step) = step else {
@@ -103,6 +109,18 @@ impl Selector {
         let is_start = is_descriptor && !self.is_anchored;
         after(alloc, before, matched.as_slice(), is_descriptor, is_start)
     }
+}
+
+// Whether a word may come after another: a type with fields has no others, and no values in a map.
+fn can_follow(before: Option<&Word>, word: &Word) -> bool {
+    let (Some(Word::Descriptor(code)), Word::Field(name)) = (before, word) else {
+        return true;
+    };
+    let Some(found) = names::type_of(*code) else {
+        return true;
+    };
+    matches!(found.form, "map" | "*")
+        || found.fields.iter().any(|field| field.name == name.as_str())
 }
 
 // Reads one word of a path.
@@ -125,13 +143,24 @@ fn word_of(alloc: Global, name: &str, is_first: bool) -> Result<Option<Word>, Fa
     Ok(names::code_of_name(name).map(Word::Descriptor))
 }
 
+// Returns the step into a level, where `key` is the key that came last.
+fn step_in<'a>(level: &Level, key: Option<&'a str>) -> Option<Step<'a>> {
+    match step_of(level) {
+        Some(Step::Value(index, None)) => {
+            let is_map = level.kind == LevelKind::Compound(ValueKind::Map);
+            Some(Step::Value(index, if is_map && index % 2 == 1 { key } else { None }))
+        }
+        step => step,
+    }
+}
+
 // Whether the steps match all words.
 fn is_whole(mask: &[bool]) -> bool {
     mask.last().copied().unwrap_or(false)
 }
 
 // Whether a step is that of a word.
-fn is_match(word: &Word, step: &Step) -> bool {
+fn is_match(word: &Word, step: &Step<'_>) -> bool {
     match (step, word) {
         (Step::Described(code), Word::Descriptor(wanted)) => code == wanted,
         (Step::Value(index, _), Word::Index(wanted)) => index == wanted,

@@ -168,6 +168,11 @@ pub(crate) fn has_unprintable(bytes: &[u8]) -> bool
     found
 }
 
+/// Returns whether all bytes are printable characters of ASCII, and there is one.
+pub(crate) fn is_printable(bytes: &[u8]) -> bool {
+    !bytes.is_empty() && !has_unprintable(bytes)
+}
+
 fn is_unprintable(byte: u8) -> bool
     ensures { result ≡ false → safe_char byte ≡ byte ∷ [] }
 {

@@ -4,7 +4,7 @@ use crate::describe::describe;
 use crate::fault::{Fault, Found};
 use crate::item::{Item, ItemKind};
 use crate::level::{Level, LevelKind};
-use crate::line::{Line, Part, push_hex};
+use crate::line::{Line, Part, push_hex, push_offset};
 use crate::options::Options;
 use crate::path::field_of;
 use amqp_value::ValueKind;
@@ -27,14 +27,17 @@ pub(crate) fn push_line(
     marks: &[&'static str],
     options: &Options,
 ) -> Result<(), Fault> {
-    let is_shown = !matches!(
-        item.kind,
-        ItemKind::End | ItemKind::Closes(_) | ItemKind::More(_, _)
-    );
+    let (outer, _) = levels.split_at(item.depth.min(levels.len()));
+    let is_shown = match item.kind {
+        ItemKind::End | ItemKind::Closes(_) | ItemKind::More(_, _) | ItemKind::Raw(0) => false,
+        ItemKind::Scalar(ValueKind::Null, _) => {
+            options.nulls || outer.last().and_then(field_of).is_none()
+        }
+        _ => true,
+    };
     if !is_shown || item.depth >= options.most_levels {
         return Ok(());
     }
-    let (outer, _) = levels.split_at(item.depth.min(levels.len()));
     push_bytes(line, item.at, bytes, options)?;
     push_indent(line, indent_of(outer), item.depth)?;
     push_label(line, outer)?;
@@ -65,12 +68,7 @@ pub(crate) fn push_fault(
 
 // Appends the offset and the bytes of a line.
 fn push_bytes(line: &mut Line, at: u64, bytes: &[u8], options: &Options) -> Result<(), Fault> {
-    line.paint(Part::Offset)?;
-    match u32::try_from(at) {
-        Ok(at) => push_hex(&mut line.text, &at.to_be_bytes())?,
-        Err(_) => write!(line.text, "{at:x}")?,
-    }
-    line.end()?;
+    push_offset(line, at)?;
     line.push("  ")?;
     let (shown, cut) = bytes.split_at(bytes.len().min(options.column));
     let mut width = shown.len();

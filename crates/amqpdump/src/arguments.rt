@@ -68,7 +68,7 @@ fn with_forms<'a>(alloc: Global, command: Command<'a>) -> Result<Command<'a>, Er
     let text = flag(
         alloc,
         "text",
-        "A line for each encoded value (the default elsewhere)",
+        "A line for each value or frame (the default elsewhere)",
     )
     .conflicts_with("json")?;
     let json = flag(alloc, "json", "A JSON object for each encoded value");
@@ -82,7 +82,7 @@ fn with_limits<'a>(alloc: Global, command: Command<'a>) -> Result<Command<'a>, E
             alloc,
             "select",
             "PATH",
-            "Show only what is there, as 0x73.message-id or /2/0",
+            "Show only what is there: properties.to, application-properties.key, 0x73.to or /2/0",
         ))?
         .arg(flag(alloc, "summary", "End with counts by kind, depth and size"))?
         .arg(with_value(
@@ -102,6 +102,7 @@ fn with_limits<'a>(alloc: Global, command: Command<'a>) -> Result<Command<'a>, E
         .arg(with_value(alloc, "limit", "N", "Read at most N values or frames").value_parser(
             value_parser!(u64),
         ))?
+        .arg(flag(alloc, "nulls", "Show fields that are absent"))?
         .arg(flag(
             alloc,
             "unbuffered",
@@ -130,6 +131,7 @@ pub fn read_arguments<'a>(
     let mut options = Options::tree();
     options.form = output_format_of(matches, is_terminal);
     options.frames = matches.get_flag("frames");
+    options.nulls = matches.get_flag("nulls");
     options.unbuffered = matches.get_flag("unbuffered");
     options.color = match matches.get_str("color") {
         Some("always") => true,

@@ -65,7 +65,9 @@ fn start<R: Input + Print + Eprint + AllocGlobal + Files + Env + Clock>(
         Err(_) => return Ok(out_of_memory(rt)),
     };
     if selector.is_none() && arguments.path.is_some() {
-        let _ = eprintln!(rt; "amqpdump: the path is not one such as 0x73.message-id or /2/0");
+        let _ = eprintln!(rt;
+            "amqpdump: the path is not one such as 0x73.message-id or /2/0, or a type has no such field"
+        );
         return Ok(2);
     }
     let output = Output::new(alloc, rt);
@@ -126,11 +128,11 @@ fn over_reader<R: Print + Eprint + AllocGlobal, I: io::Read + Drop>(
 ) -> u8 {
     if !arguments.hex {
         let result = over_bytes(rt, output, input, arguments, selector);
-        return status(rt, output, result);
+        return status(rt, output, selector, result);
     }
     let mut input = HexReader::new(input);
     let result = over_bytes(rt, output, &mut input, arguments, selector);
-    let code = status(rt, output, result);
+    let code = status(rt, output, selector, result);
     if let Some(at) = input.wrong_at() {
         let _ = eprintln!(rt; "amqpdump: character {at} of the input is not hexadecimal");
         return 1;
@@ -170,14 +172,23 @@ fn over_bytes<R: Print + AllocGlobal, I: io::Read + Drop>(
 fn status<R: Print + Eprint + AllocGlobal>(
     rt: &R,
     output: &Output<'_, R>,
+    selector: &Option<Selector>,
     ended: Result<Report, Fault>,
 ) -> u8 {
     match ended {
         _ if output.is_closed() => 0,
         Ok(report) => {
-            let Report { first, .. } = report;
+            let Report {
+                first,
+                selected,
+                ..
+            } = report;
             let Some(first) = first else {
-                return 0;
+                if selected > 0 || selector.is_none() {
+                    return 0;
+                }
+                let _ = eprintln!(rt; "amqpdump: nothing is at this path");
+                return 3;
             };
             if let Ok(text) = first.text(rt.alloc()) {
                 let _ = eprintln!(rt; "amqpdump: {text}");
