@@ -1,7 +1,7 @@
 //! Goes over an input and shows it.
 
 use crate::fault::{Fault, Found};
-use crate::foreign::foreign_fault;
+use crate::foreign::{foreign_fault, may_be_foreign};
 use crate::item::{Item, ItemKind};
 use crate::json::{Json, push_json_fault};
 use crate::key::Key;
@@ -308,9 +308,11 @@ impl Dumper {
 
 // Returns a fault of the first item, or that of an input that is no AMQP.
 fn named<S: Taking>(source: &mut S, fault: Fault) -> Result<Fault, Fault> {
-    let next = source.peek()?.unwrap_or(0);
     let found = match source.item_bytes() {
-        [first] => foreign_fault(&[*first, next]),
+        [first] if may_be_foreign(*first) => {
+            let first = *first;
+            foreign_fault(&[first, source.peek()?.unwrap_or(0)])
+        }
         bytes => foreign_fault(bytes),
     };
     Ok(found.unwrap_or(fault))

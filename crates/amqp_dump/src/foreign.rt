@@ -13,6 +13,11 @@ pub(crate) fn foreign_fault(first: &[u8]) -> Option<Fault> {
     }
 }
 
+/// Returns whether two bytes that begin so may be of a packet capture or of TLS, and of no value.
+pub(crate) fn may_be_foreign(first: u8) -> bool {
+    matches!(first, 0xd4 | 0x4d | 0x0a | 0x16)
+}
+
 /// Like `foreign_fault`, if frames are expected. Also a described value, which is taken for the
 /// size of a frame of an unknown type, is none.
 pub(crate) fn no_frame(header: &[u8; 8]) -> Option<Fault> {
