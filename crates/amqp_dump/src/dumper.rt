@@ -4,6 +4,7 @@ use crate::fault::{Fault, Found};
 use crate::foreign::{foreign_fault, may_be_foreign};
 use crate::item::{Item, ItemKind};
 use crate::json::{Json, push_json_fault};
+use crate::json_line::{JsonLine, push_fault_line};
 use crate::key::Key;
 use crate::level::{Level, LevelKind};
 use crate::line::Line;
@@ -40,6 +41,7 @@ struct Dumper {
     scanner: Scanner,
     marks: Marks,
     json: Json,
+    json_line: JsonLine,
     text: TextLine,
     line: Line,
     masks: Masks,
@@ -86,6 +88,7 @@ pub fn run<S: Taking, W: Write>(
         scanner: Scanner::new(alloc, options.frames, piece),
         marks: Marks::new(alloc),
         json: Json::new(alloc),
+        json_line: JsonLine::new(alloc, options.nulls),
         text: TextLine::new(alloc, options.nulls),
         line: Line::new(alloc, options.color),
         masks: Masks::new(alloc),
@@ -178,8 +181,10 @@ impl Dumper {
         }
         let levels = self.scanner.levels();
         let in_payload = self.scanner.is_in_payload();
-        let is_text_of_frame = self.options.form == OutputFormat::Text && is_in_frame(levels);
-        let base = self.selected.unwrap_or(usize::from(is_text_of_frame));
+        let is_line = matches!(self.options.form, OutputFormat::Text | OutputFormat::Json);
+        let base = self
+            .selected
+            .unwrap_or(usize::from(is_line && is_in_frame(levels)));
         match self.options.form {
             OutputFormat::Tree => push_line(
                 self.alloc,
@@ -194,10 +199,15 @@ impl Dumper {
                 let line = &mut self.line;
                 self.text.add(line, item, base, levels, bytes, in_payload)?;
             }
-            OutputFormat::Json if self.is_muted => {
+            OutputFormat::Json | OutputFormat::JsonExact if self.is_muted => {
                 self.is_muted = item.kind != ItemKind::Closes(LevelKind::Frame);
             }
             OutputFormat::Json => {
+                let text = &mut self.line.text;
+                self.json_line
+                    .add(text, item, base, levels, bytes, in_payload)?;
+            }
+            OutputFormat::JsonExact => {
                 let text = &mut self.line.text;
                 self.json.add(text, item, base, levels, bytes, in_payload)?;
             }
@@ -286,6 +296,11 @@ impl Dumper {
                 self.line.push("\n")
             }
             OutputFormat::Json => {
+                self.json_line.clear();
+                self.is_muted = true;
+                push_fault_line(&mut self.line.text, found)
+            }
+            OutputFormat::JsonExact => {
                 self.json.clear();
                 self.is_muted = true;
                 push_json_fault(&mut self.line.text, found)

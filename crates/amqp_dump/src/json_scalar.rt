@@ -7,6 +7,9 @@ use amqp_value::{Value, ValueKind};
 use std::alloc::Global;
 use std::num::{f32_from_bits_with_nan, f64_from_bits_with_nan};
 
+// The greatest whole number up to which a double holds all.
+const EXACT: u64 = 1 << 53;
+
 /// Appends a piece of a binary or a text, and the quote after the last piece.
 pub(crate) fn push_payload(text: &mut String, value: &Value, more: bool) -> Result<(), Fault> {
     match value {
@@ -54,6 +57,42 @@ pub(crate) fn add_scalar(
         Value::Timestamp(time) => {
             let millis = *time.as_inner();
             write!(text, "\"{millis}\",\"text\":\"{time}\"")?;
+        }
+        _ => {
+            text.push_str("\"")?;
+            push_payload(text, value, false)?;
+        }
+    }
+    Ok(())
+}
+
+/// Appends a scalar, or an empty list: numbers as they are, those that a double does not hold and
+/// all other scalars as strings.
+pub(crate) fn push_bare(alloc: Global, text: &mut String, value: &Value) -> Result<(), Fault> {
+    match value {
+        Value::Null
+        | Value::Bool(_)
+        | Value::Ubyte(_)
+        | Value::Ushort(_)
+        | Value::Uint(_)
+        | Value::Byte(_)
+        | Value::Short(_)
+        | Value::Int(_)
+        | Value::List(_) => write!(text, "{value}")?,
+        Value::Ulong(number) if *number <= EXACT => write!(text, "{number}")?,
+        Value::Long(number) if number.unsigned_abs() <= EXACT => write!(text, "{number}")?,
+        Value::Float(bits) => {
+            let number = f32_from_bits_with_nan(*bits.as_inner());
+            let quote = if number.is_finite() { "" } else { "\"" };
+            write!(text, "{quote}{number}{quote}")?;
+        }
+        Value::Double(bits) => {
+            let number = f64_from_bits_with_nan(*bits.as_inner());
+            if number.is_finite() {
+                push_number(alloc, text, number)?;
+            } else {
+                write!(text, "\"{number}\"")?;
+            }
         }
         _ => {
             text.push_str("\"")?;

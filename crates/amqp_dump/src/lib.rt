@@ -14,6 +14,7 @@ mod frames;
 mod hex_reader;
 mod item;
 mod json;
+mod json_line;
 mod json_scalar;
 mod key;
 mod kinds;

@@ -7,8 +7,10 @@ pub enum OutputFormat {
     Tree,
     /// A line for each value or frame, with the names of fields.
     Text,
-    /// A JSON object for each value.
+    /// A JSON object for each value or frame, with the names of fields.
     Json,
+    /// A JSON object for each value, with all kinds and descriptors.
+    JsonExact,
 }
 
 /// What is shown, and how.

@@ -208,8 +208,8 @@ impl TextLine {
     }
 }
 
-// Whether the item is a field that is not there.
-fn is_absent(item: Item, outer: Option<&Level>) -> bool {
+/// Returns whether the item is a field that is not there.
+pub(crate) fn is_absent(item: Item, outer: Option<&Level>) -> bool {
     matches!(item.kind, ItemKind::Scalar(ValueKind::Null, _))
         && outer.is_some_and(|level| field_of(level).is_some())
 }

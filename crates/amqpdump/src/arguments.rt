@@ -71,7 +71,16 @@ fn with_forms<'a>(alloc: Global, command: Command<'a>) -> Result<Command<'a>, Er
         "A line for each value or frame (the default elsewhere)",
     )
     .conflicts_with("json")?;
-    let json = flag(alloc, "json", "A JSON object for each encoded value");
+    let json = with_value(
+        alloc,
+        "json",
+        "FORM",
+        "A JSON object for each value or frame; exact: with all kinds and descriptors",
+    )
+    .num_args(0..=1)
+    .require_equals(true)
+    .default_missing_value("lines")
+    .value_parser(["lines", "exact"].as_slice());
     Ok(command.arg(tree)?.arg(text)?.arg(json)?)
 }
 
@@ -163,8 +172,12 @@ pub fn read_arguments<'a>(
 }
 
 fn output_format_of(matches: &ArgMatches<'_>, is_terminal: bool) -> OutputFormat {
-    if matches.get_flag("json") {
-        OutputFormat::Json
+    if let Some(form) = matches.get_str("json") {
+        if form == "exact" {
+            OutputFormat::JsonExact
+        } else {
+            OutputFormat::Json
+        }
     } else if matches.get_flag("tree") || (is_terminal && !matches.get_flag("text")) {
         OutputFormat::Tree
     } else {
