@@ -1,0 +1,2 @@
+-- Definitions that the contracts of the library cite.
+pub mod Sign
