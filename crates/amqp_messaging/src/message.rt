@@ -1,6 +1,7 @@
 //! Messages: their sections one after another (AMQP 1.0 part 3, section 3.2).
 
 mod content;
+mod conversions;
 mod encoded;
 mod error;
 mod kind;

@@ -6,6 +6,7 @@
 //! writes performatives of any type.
 #![tactic(auto)]
 
+mod conversions;
 mod error;
 mod header;
 mod protocol;
