@@ -12,6 +12,9 @@ use std::alloc::Global;
 use std::marker::PhantomData;
 
 /// A field that is read as the value of the number `D` if it is absent or null.
+///
+/// # Example
+/// `Defaulted<u8, 4>` reads `5002` as 2, and `40` and an absent element as 4.
 #[derive(Drop)]
 pub struct Defaulted<V, const D: u64>(pub PhantomData<V>);
 
