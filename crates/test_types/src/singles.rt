@@ -22,8 +22,8 @@ pub struct Weight {
 #[derive(Debug, PartialEq, Drop)]
 pub struct Price(pub u64);
 
-/// A number, a text or a UUID, which can be the key of a map.
-// amqp: encoding = "scalar", map_key
+/// A number, a text or a UUID.
+// amqp: encoding = "scalar"
 #[derive(Debug, PartialEq, Drop)]
 pub enum Address {
     Number(u64),

@@ -168,10 +168,6 @@ impl RoundTripReadable for Address {
     fn readable_law() {}
 }
 
-impl MapKey for Address {
-    fn image_is_injective() {}
-}
-
 impl Side {
     /// Returns the text of the value.
     pub fn as_str(&self) -> &'static str
