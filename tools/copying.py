@@ -8,7 +8,7 @@ from subprocess import DEVNULL, PIPE, run
 ROOT = Path(__file__).resolve().parent.parent
 TOP = "serde_amqp"
 # the libraries that can be copied are these and those below them
-TOPS = (TOP, "amqp_jiff", "amqp_types", "amqp_dump")
+TOPS = (TOP, "amqp_jiff", "amqp_cursor", "amqp_dump", "amqp_types")
 PARTS = {"src": ".rt", "specs": ".antt", "proofs": ".antt"}
 OWN = "fimoruke"
 LIST = f"{OWN}/COPIED"
